@@ -1,0 +1,12 @@
+pub mod Patterns
+pub mod Sizes
+pub mod Sign
+pub mod Nearest
+pub mod DescentStep
+pub mod Descent
+pub mod Holzer
+pub mod Box
+pub mod Congruences
+pub mod Core
+pub mod Necessity
+pub mod Legendre

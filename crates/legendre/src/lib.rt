@@ -1,0 +1,1 @@
+// Legendre's equation on machine numbers.

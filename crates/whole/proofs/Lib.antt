@@ -1,0 +1,9 @@
+pub mod Laws
+pub mod Polynomial
+pub mod Expression
+pub mod Ring
+pub mod Combination
+pub mod Identities
+pub mod Order
+pub mod Magnitude
+pub mod Signed
