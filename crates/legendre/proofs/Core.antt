@@ -9,7 +9,7 @@ use native.Mathlib.Nat.{mul-lt-mul-of-pos-left, mul-assoc, mul-comm, mod-lt, suc
 use native.Mathlib.Decide.{ℕ-discrete, decLe}
 use native.Mathlib.Omega.{arith}
 use lib.IntN.{ℤ, pos, negsuc, negℤ, natAbs, _+ℤ_, _-ℤ_, _*ℤ_}
-use Rattle.whole.proofs.Magnitude.{natAbs-neg}
+use Rattle.whole.proofs.Size.{natAbs-neg}
 use Rattle.whole.proofs.Ring.{by-ring, reify}
 use Rattle.whole.proofs.Combination.{combine, _⊞_, _⊠_}
 use Rattle.number.specs.Divides.{_∣ℤ_}

@@ -8,7 +8,7 @@ use native.Mathlib.Omega.{arith}
 use lib.IntN.{ℤ, pos, negℤ, natAbs, _+ℤ_, _*ℤ_}
 use Rattle.whole.proofs.Ring.{by-ring, reify}
 use Rattle.whole.proofs.Combination.{combine, _⊠_}
-use Rattle.whole.proofs.Magnitude.{natAbs-neg, natAbs-*}
+use Rattle.whole.proofs.Size.{natAbs-neg, natAbs-*}
 use Rattle.number.proofs.Squarefree.{squarefree-same-size}
 use Rattle.legendre.specs.Equation.{Levelled, form, Solvable, SolvableInBox}
 use Rattle.legendre.specs.Theorems.{NoneBySign, Holzer}

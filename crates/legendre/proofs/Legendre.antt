@@ -4,7 +4,7 @@ use mathlib.Core.Path.{_≡_, refl, ap, subst, _∙_}
 use mathlib.Core.List.{[], _∷_}
 use Prim.Native.Nat.{ℕ, _≤_}
 use lib.IntN.{ℤ, pos, negℤ, natAbs, _-ℤ_, _*ℤ_, *ℤ-comm}
-use Rattle.whole.proofs.Magnitude.{natAbs-neg}
+use Rattle.whole.proofs.Size.{natAbs-neg}
 use Rattle.whole.proofs.Ring.{by-ring, reify}
 use Rattle.number.specs.Divides.{_∣ℤ_}
 use Rattle.number.specs.Prime.{Prime}

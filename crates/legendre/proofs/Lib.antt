@@ -10,3 +10,6 @@ pub mod Congruences
 pub mod Core
 pub mod Necessity
 pub mod Legendre
+pub mod Conditions
+pub mod Choice
+pub mod Answer

@@ -9,7 +9,7 @@ use native.Mathlib.Omega.{arith}
 use lib.IntN.{ℤ, pos, negsuc, negℤ, natAbs, _+ℤ_, _-ℤ_, _*ℤ_, +ℤ-negℤ-cancel}
 use Rattle.whole.proofs.Ring.{by-ring, reify}
 use Rattle.whole.proofs.Combination.{combine, _⊞_, _⊠_}
-use Rattle.whole.proofs.Magnitude.{natAbs-neg}
+use Rattle.whole.proofs.Size.{natAbs-neg}
 
 -- m as twice a number and a rest of 0 or 1
 record Halved (m : ℤ) : Type 0 where

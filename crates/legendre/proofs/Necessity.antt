@@ -7,7 +7,7 @@ use mathlib.Core.List.{[], _∷_}
 use Prim.Native.Nat.{ℕ, _*_, _∣_, _<_}
 use native.Mathlib.Nat.{eq-zero-or-pos, mul-comm, mul-pos}
 use lib.IntN.{ℤ, pos, negℤ, natAbs, _+ℤ_, _-ℤ_, _*ℤ_, *ℤ-zero}
-use Rattle.whole.proofs.Magnitude.{natAbs-*}
+use Rattle.whole.proofs.Size.{natAbs-*}
 use Rattle.whole.proofs.Ring.{by-ring, reify}
 use Rattle.whole.proofs.Combination.{combine, _⊞_, _⊠_}
 use Rattle.number.specs.Divides.{_∣ℤ_}

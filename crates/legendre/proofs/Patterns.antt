@@ -7,7 +7,7 @@ use Prim.Native.Nat.{ℕ, zero, suc, _*_, _≤_}
 use native.Mathlib.Omega.{arith}
 use lib.Dec.{lt→ltb}
 use lib.IntN.{ℤ, pos, negsuc, negℤ, natAbs, _*ℤ_, *ℤ-comm, negℤ-negℤ}
-use Rattle.whole.proofs.Magnitude.{natAbs-neg}
+use Rattle.whole.proofs.Size.{natAbs-neg}
 use Rattle.whole.proofs.Ring.{by-ring, reify}
 use Rattle.number.specs.Divides.{_∣ℤ_}
 use Rattle.number.specs.Gcd.{Coprime}

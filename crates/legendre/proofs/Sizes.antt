@@ -9,7 +9,7 @@ use native.Mathlib.Omega.{arith}
 use lib.IntN.{ℤ, pos, negsuc, natAbs, _-ℤ_, _*ℤ_}
 use Rattle.whole.proofs.Ring.{by-ring, reify}
 use Rattle.whole.proofs.Combination.{combine, _⊠_}
-use Rattle.whole.proofs.Magnitude.{natAbs-*}
+use Rattle.whole.proofs.Size.{natAbs-*}
 use Rattle.legendre.specs.Equation.{form}
 
 pub square-of-size : (x : ℤ) → x *ℤ x ≡ pos (natAbs x * natAbs x)

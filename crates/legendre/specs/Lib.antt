@@ -1,2 +1,4 @@
 pub mod Equation
 pub mod Theorems
+pub mod Outcome
+pub mod Answer

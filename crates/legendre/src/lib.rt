@@ -1,1 +1,2 @@
 // Legendre's equation on machine numbers.
+pub mod outcome;

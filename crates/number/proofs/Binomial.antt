@@ -3,7 +3,7 @@
 use mathlib.Core.Path.{_≡_, refl, sym, ap, ap₂, subst, _∙_, fun-ext}
 use mathlib.Core.Logic.{⊎-elim}
 use Prim.Native.Nat.{ℕ, zero, suc, _+_, _*_, _^_, _/_, _%_, _≤_, _<_, _∣_, suc-le-suc}
-use native.Mathlib.Nat.{add-zero, add-assoc, mul-zero, mul-suc, zero-mul, one-mul, mul-one, mul-add, add-mul, suc-mul, mul-comm, mul-assoc, mul-left-comm, pow-zero, pow-suc, le-of-suc-le-suc, dvd-add, dvd-zero, dvd-mul-right, le-of-dvd, not-suc-le-zero, zero-lt-suc, le-refl, mul-add-mod-self-left, mul-div-cancel', dvd-mul-right-of-dvd}
+use native.Mathlib.Nat.{mul-zero, mul-suc, zero-mul, one-mul, mul-add, add-mul, suc-mul, mul-comm, mul-assoc, pow-zero, pow-suc, le-of-suc-le-suc, dvd-add, dvd-zero, dvd-mul-right, le-of-dvd, not-suc-le-zero, zero-lt-suc, le-refl, mul-add-mod-self-left, mul-div-cancel', dvd-mul-right-of-dvd}
 use native.Mathlib.Omega.{arith}
 use Rattle.number.specs.Prime.{Prime}
 use Rattle.number.proofs.Prime.{prime-divides-product-ℕ}

@@ -1,10 +1,9 @@
 -- Congruent whole numbers: their difference is a multiple of the modulus. Sums and products of congruent numbers are congruent, a
 -- number is congruent to its remainder, and natural numbers are congruent if they leave the same remainder. Assumes nothing.
-use mathlib.Core.Path.{_≡_, refl, sym, ap, _∙_, subst}
+use mathlib.Core.Path.{_≡_, sym, ap, _∙_, subst}
 use mathlib.Core.List.{[], _∷_}
-use Prim.Native.Nat.{ℕ, zero, suc, _+_, _-_, _*_, _/_, _%_, _<_}
+use Prim.Native.Nat.{ℕ, suc, _+_, _-_, _*_, _/_, _%_, _<_}
 use native.Mathlib.Nat.{mod-add-div, mod-add-div', mod-lt, mod-mod, suc-mul, mul-add-mod-self-right}
-use native.Mathlib.Numerals.{one-add}
 use native.Mathlib.Omega.{arith}
 use lib.IntN.{ℤ, pos, negsuc, negℤ, natAbs, _+ℤ_, _-ℤ_, _*ℤ_}
 use Rattle.whole.proofs.Ring.{by-ring, reify}

@@ -9,7 +9,7 @@ use native.Mathlib.Decide.{decDvd, map-dec}
 use borrow.Author.Tests.{eqb-true, eq-eqb}
 use lib.IntN.{ℤ, pos, negsuc, natAbs, negℤ, negℤ-negℤ, _+ℤ_, _-ℤ_, _*ℤ_, *ℤ-comm, zero-*ℤ, +ℤ-negℤ-cancel}
 use Rattle.whole.proofs.Laws.{one-*ℤ, *ℤ-assoc, *ℤ-distribʳ, negℤ-*ℤ, *ℤ-negℤ, *ℤ-swap-middle}
-use Rattle.whole.proofs.Magnitude.{natAbs-*}
+use Rattle.whole.proofs.Size.{natAbs-*}
 use Rattle.number.specs.Divides.{_∣ℤ_, divides}
 use Rattle.number.proofs.Least.{false-of-not-true, not-true-of-false}
 

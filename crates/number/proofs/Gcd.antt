@@ -6,7 +6,7 @@ use native.Mathlib.Nat.{dvd-refl, dvd-zero, dvd-trans, dvd-antisymm, dvd-mod-iff
 use native.Mathlib.Omega.{arith}
 use lib.IntN.{ℤ, pos, natAbs}
 use lib.Signed.{quotZ}
-use Rattle.whole.proofs.Magnitude.{natAbs-quot}
+use Rattle.whole.proofs.Size.{natAbs-quot}
 use Rattle.number.specs.Divides.{_∣ℤ_}
 use Rattle.number.specs.Gcd.{euclid, gcdOf, Coprime}
 use Rattle.number.proofs.Divides.{times-quotient, sizes-divide}

@@ -16,3 +16,7 @@ pub mod FromPrimes
 pub mod Square
 pub mod Newton
 pub mod SquareResidue
+pub mod SquarePart
+pub mod TrialDivision
+pub mod SplitFits
+pub mod LeastRoot

@@ -1,11 +1,11 @@
 -- Remainders of natural numbers: products, powers and differences by remainders, and cancelling modulo a prime. A number is its
 -- remainder and a multiple of the modulus. Assumes nothing.
 use mathlib.Core.Path.{_≡_, refl, sym, ap, _∙_, subst}
-use mathlib.Core.Logic.{_⊎_, ⊎-elim}
+use mathlib.Core.Logic.{⊎-elim}
 use Prim.Native.Nat.{ℕ, zero, suc, _+_, _-_, _*_, _^_, _/_, _%_, _≤_, _<_, _∣_}
-use native.Mathlib.Nat.{mod-add-div, mod-mod, mod-zero, mul-add, add-mul, mul-assoc, mul-comm, mul-sub, add-mul-mod-self-left, pow-zero, pow-suc, dvd-mul-right, dvd-of-mod-eq-zero, mul-div-cancel', mod-eq-of-lt, mul-le-mul-left}
+use native.Mathlib.Nat.{mod-add-div, mod-mod, add-mul, mul-assoc, mul-comm, mul-sub, add-mul-mod-self-left, pow-zero, pow-suc, dvd-mul-right, mul-div-cancel', mod-eq-of-lt, mul-le-mul-left, mul-one, pow-succ', mul-le-mul, lt-of-le-of-lt}
 use native.Mathlib.Omega.{arith}
-use lib.Pow.{pow-add}
+use lib.Dec.{lit<}
 use Rattle.number.specs.Prime.{Prime}
 use Rattle.number.proofs.Prime.{prime-divides-product-ℕ}
 
@@ -31,9 +31,6 @@ same-power n a b zero p = ap (λ (x : ℕ). x % n) (pow-zero a ∙ sym (pow-zero
 same-power n a b (suc k) p =
     ap (λ (x : ℕ). x % n) (pow-suc a k) ∙ same-product n (a ^ k) (b ^ k) a b (same-power n a b k p) p ∙ ap (λ (x : ℕ). x % n) (sym (pow-suc b k))
 
-pub power-of-remainder : (n a k : ℕ) → (a % n) ^ k % n ≡ a ^ k % n
-power-of-remainder n a k = same-power n (a % n) a k (mod-mod a n)
-
 -- (a·a)ᵏ is aᵏ⁺ᵏ
 pub power-of-square : (a k : ℕ) → (a * a) ^ k ≡ a ^ (k + k)
 power-of-square a zero = pow-zero (a * a) ∙ sym (pow-zero a)
@@ -47,6 +44,33 @@ power-of-square a (suc k) =
   where
     twice : suc (suc (k + k)) ≡ suc k + suc k
     twice = omega arith
+
+-- ---- repeated squaring: a product r·sᵏ, with t the square of s, and q the product of r and s
+module _ (n r s t k : ℕ) (squared : t ≡ s * s % n) where
+  halved : t ^ (k / 2) % n ≡ s ^ (k / 2 + k / 2) % n
+  halved =
+      same-power n t (s * s) (k / 2) (ap (λ (x : ℕ). x % n) squared ∙ mod-mod (s * s) n)
+      ∙ ap (λ (x : ℕ). x % n) (power-of-square s (k / 2))
+
+  pub power-even : k % 2 ≡ 0 → r * t ^ (k / 2) % n ≡ r * s ^ k % n
+  power-even even =
+      same-product n r r (t ^ (k / 2)) (s ^ (k / 2 + k / 2)) refl halved ∙ ap (λ (i : ℕ). r * s ^ i % n) twice
+    where
+      twice : k / 2 + k / 2 ≡ k
+      twice = omega arith
+
+  pub power-odd : (q : ℕ) → q ≡ r * s % n → k % 2 ≡ 1 → q * t ^ (k / 2) % n ≡ r * s ^ k % n
+  power-odd q multiplied odd =
+      same-product n q (r * s) (t ^ (k / 2)) (s ^ (k / 2 + k / 2)) (ap (λ (x : ℕ). x % n) multiplied ∙ mod-mod (r * s) n) halved
+      ∙ ap (λ (x : ℕ). x % n) (mul-assoc r s (s ^ (k / 2 + k / 2)))
+      ∙ ap (λ (x : ℕ). r * x % n) (sym (pow-succ' s (k / 2 + k / 2)))
+      ∙ ap (λ (i : ℕ). r * s ^ i % n) twice
+    where
+      twice : suc (k / 2 + k / 2) ≡ k
+      twice = omega arith
+
+pub power-done : (n r s : ℕ) {k : ℕ} → k ≡ 0 → r < n → r * s ^ k % n ≡ r
+power-done n r s none h = ap (λ (i : ℕ). r * s ^ i % n) none ∙ ap (λ (x : ℕ). x % n) (ap (λ (x : ℕ). r * x) (pow-zero s) ∙ mul-one r) ∙ mod-eq-of-lt h
 
 -- ---- differences
 pub divides-difference : (n : ℕ) {a b : ℕ} → b ≤ a → a % n ≡ b % n → n ∣ a - b
@@ -68,3 +92,7 @@ pub cancel-factor : {l : ℕ} → Prime l → (r : ℕ) → (l ∣ r → ⊥) �
 cancel-factor {l} prime r away {a} {b} h p =
     ⊎-elim (λ d. absurd (away d)) (same-of-divides l h)
     (prime-divides-product-ℕ r (a - b) prime (subst (λ (x : ℕ). l ∣ x) (sym (mul-sub r a b)) (divides-difference l (mul-le-mul-left r h) p)))
+
+-- ---- residues below 2³²
+pub small-product : {a b : ℕ} → a < 2 ^ 32 → b < 2 ^ 32 → a * b < 2 ^ 64
+small-product {a} {b} h k = lt-of-le-of-lt (mul-le-mul {n₂ = 4294967295} {m₂ = 4294967295} (omega arith) (omega arith)) (lit< tt)

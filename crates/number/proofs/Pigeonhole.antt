@@ -1,9 +1,8 @@
 -- The pigeonhole principle: more numbers than places, so two of them go to one place. Compare the last number with the others:
 -- one of them has the same place, or its place is free for them, and the places above it move down by one. Assumes nothing.
-use mathlib.Core.Path.{_≡_, refl, sym, ap, _∙_}
+use mathlib.Core.Path.{_≡_, sym, ap, _∙_}
 use mathlib.Core.Logic.{_≢_, _⊎_, inl, inr}
-use mathlib.Core.Bool.{Bool, true, false, not, cond}
-use Prim.Native.Nat.{ℕ, zero, suc, pred, _≤_, _<_}
+use Prim.Native.Nat.{ℕ, zero, suc, pred, _<_}
 use native.Mathlib.Nat.{not-suc-le-zero, eq-or-lt-of-le, le-of-suc-le-suc}
 use native.Mathlib.Decide.{ℕ-discrete, decLt}
 use native.Mathlib.Omega.{arith}

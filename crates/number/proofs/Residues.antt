@@ -8,7 +8,7 @@ use native.Mathlib.Nat.{lt-of-le-of-lt}
 use native.Mathlib.Omega.{arith}
 use borrow.Author.Tests.{ltb-true, lt-ltb}
 use lib.IntN.{ℤ, pos, natAbs, _*ℤ_, _-ℤ_}
-use Rattle.number.specs.Divides.{_∣ℤ_, divides}
+use Rattle.number.specs.Divides.{divides}
 use Rattle.number.specs.Remainder.{remainderOf}
 use Rattle.number.specs.Residue.{SquareModulo, leastRootOf, isSquareModulo}
 use Rattle.number.proofs.Least.{least-at-most, least-is-least, least-holds, least-same-test, false-of-not-true, not-true-of-false}

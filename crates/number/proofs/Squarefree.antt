@@ -1,15 +1,16 @@
 -- Laws of squarefree numbers. Divided by their greatest common divisor two numbers have no common factor; a square that divides a
 -- product and has no factor in common with one part divides the other, and a squarefree part has no square to give. Assumes nothing.
-use mathlib.Core.Path.{_≡_, sym, _∙_, ap, subst}
+use mathlib.Core.Path.{_≡_, refl, sym, _∙_, ap, subst}
 use mathlib.Core.Logic.{_≢_, ⊎-elim}
 use Prim.Native.Nat.{ℕ, _*_, _/_, _∣_, _<_}
 use native.Mathlib.Nat.{mul-assoc, mul-comm, mul-mul-mul-comm, mul-one, mul-pos, eq-zero-or-pos, dvd-zero, dvd-trans, dvd-mul-left, dvd-mul-right, dvd-of-mul-dvd-mul-left, mul-dvd-mul, mul-dvd-mul-right, eq-one-of-dvd-one}
 use native.Mathlib.Omega.{arith}
 use lib.IntN.{ℤ, pos, natAbs, _*ℤ_}
-use Rattle.whole.proofs.Magnitude.{natAbs-*}
+use Rattle.whole.proofs.Size.{natAbs-*}
+use Rattle.number.specs.Divides.{_∣ℤ_}
 use Rattle.number.specs.Gcd.{gcdOf, Coprime}
 use Rattle.number.specs.Squarefree.{Squarefree}
-use Rattle.number.proofs.Divides.{times-quotient}
+use Rattle.number.proofs.Divides.{times-quotient, sizes-divide, divides-by-sizes}
 use Rattle.number.proofs.Gcd.{gcd-divides-left, gcd-divides-right, both-zero-of-gcd-zero, quotients-coprime, coprime-of-common-divisors, coprime-common-divisor}
 use Rattle.number.proofs.Bezout.{coprime-naturals, coprime-product, euclid-lemma-ℕ}
 
@@ -77,6 +78,18 @@ squarefree-divides-root {g} b free h =
         let common-out : f * l ∣ f * (m * (m * f)) =
         rw (mul-assoc f m (f * m), mul-comm f m) at h in
         mul-dvd-mul-right l (euclid-lemma-ℕ l m f apart (euclid-lemma-ℕ l m (m * f) apart (dvd-of-mul-dvd-mul-left l p common-out))) l
+
+-- both on ℤ
+pub root-divides-root-ℤ : {c : ℤ} (k z : ℤ) → Squarefree c → (k *ℤ k) ∣ℤ (c *ℤ (z *ℤ z)) → k ∣ℤ z
+root-divides-root-ℤ {c} k z free h =
+    divides-by-sizes k z
+    (root-divides-root (natAbs k) (natAbs z) (squarefree-same-size refl free)
+    (rw (← natAbs-* z z, ← natAbs-* c (z *ℤ z), ← natAbs-* k k) (sizes-divide h)))
+
+pub squarefree-divides-root-ℤ : {g : ℤ} (b : ℤ) → Squarefree g → g ∣ℤ (b *ℤ b) → g ∣ℤ b
+squarefree-divides-root-ℤ {g} b free h =
+    divides-by-sizes g b
+    (squarefree-divides-root (natAbs b) (squarefree-same-size refl free) (rw (← natAbs-* b b) (sizes-divide h)))
 
 -- squarefree numbers with no common factor have a squarefree product
 product-on-ℕ : {a b : ℕ} → Coprime (pos a) (pos b) → Squarefree (pos a) → Squarefree (pos b) → Squarefree (pos (a * b))

@@ -1,38 +1,31 @@
 -- The split of n ≠ 0 into d·s², d squarefree: it exists, since what is left of n by the greatest square has no square to give, and
 -- it is unique, since each of two such roots divides the other. Assumes nothing.
-use mathlib.Core.Path.{_≡_, refl, sym, _∙_, ap, subst}
-use mathlib.Core.Logic.{_≢_, ⊎-elim}
-use mathlib.Core.Bool.{true}
-use Prim.Native.Nat.{ℕ, zero, suc, _*_, _/_, _∣_, _≤_, _<_}
-use native.Mathlib.Nat.{le-antisymm, lt-of-le-of-lt, le-of-suc-le-suc, mul-pos, mul-mul-mul-comm, one-mul, le-of-mul-le-mul-right, zero-div, div-mul-cancel, mul-div-cancel, le-of-dvd, pos-of-dvd-of-pos, one-dvd, dvd-trans, dvd-antisymm, dvd-mul-left, dvd-mul-right, mul-dvd-mul-right}
+use mathlib.Core.Path.{_≡_, refl, sym, _∙_, ap}
+use mathlib.Core.Logic.{_≢_}
+use Prim.Native.Nat.{ℕ, suc, _*_, _/_, _∣_, _≤_, _<_}
+use native.Mathlib.Nat.{le-antisymm, le-trans, ne-of-gt, pos-of-ne-zero, mul-pos, mul-mul-mul-comm, one-mul, le-of-mul-le-mul-right, div-mul-cancel, le-of-dvd, pos-of-dvd-of-pos, one-dvd, dvd-trans, dvd-antisymm, dvd-mul-left, dvd-mul-right, mul-dvd-mul-right}
 use native.Mathlib.Omega.{arith}
-use lib.IntN.{ℤ, pos, negsuc, negℤ, natAbs, _*ℤ_}
+use lib.IntN.{ℤ, pos, negsuc, negℤ, natAbs, _*ℤ_, *ℤ-comm}
 use lib.Signed.{quotZ}
 use Rattle.number.specs.Divides.{divides}
-use Rattle.number.specs.Least.{greatest}
+use Rattle.number.specs.Least.{firstFrom, least, greatest}
 use Rattle.number.specs.Square.{rootOf}
 use Rattle.number.specs.Squarefree.{Squarefree, squarePart, freePart}
 use Rattle.whole.proofs.Laws.{negℤ-*ℤ}
-use Rattle.whole.proofs.Magnitude.{natAbs-*}
-use Rattle.number.proofs.Least.{greatest-holds, greatest-is-greatest}
+use Rattle.whole.proofs.Size.{natAbs-*, natAbs-zero}
+use Rattle.whole.proofs.Products.{*ℤ-cancel}
+use Rattle.number.proofs.Least.{greatest-at-most, greatest-holds, greatest-is-greatest}
 use Rattle.number.proofs.Divides.{divides-iff}
-use Rattle.number.proofs.Square.{root-is, order-of-squares}
+use Rattle.number.proofs.Square.{root-is, at-most-root, square-≤}
 use Rattle.number.proofs.Squarefree.{root-divides-root, squarefree-not-zero, squarefree-same-size}
 
--- ---- exact quotients
-times-exact-quotient : (x : ℤ) (k : ℕ) → k ∣ natAbs x → quotZ x (pos k) *ℤ pos k ≡ x
-times-exact-quotient (pos a) k h = ap pos (div-mul-cancel k h)
-times-exact-quotient (negsuc a) k h =
+exact-quotient : (x : ℤ) (k : ℕ) → k ∣ natAbs x → quotZ x (pos k) *ℤ pos k ≡ x
+exact-quotient (pos a) k h = ap pos (div-mul-cancel k h)
+exact-quotient (negsuc a) k h =
     negℤ-*ℤ (pos (suc a / k)) (pos k) ∙ ap (λ (x : ℕ). negℤ (pos x)) (div-mul-cancel k h)
 
-quotient-of-negation : (x k : ℕ) → quotZ (negℤ (pos x)) (pos k) ≡ negℤ (pos (x / k))
-quotient-of-negation zero k = ap pos (zero-div k) ∙ sym (ap (λ (x : ℕ). negℤ (pos x)) (zero-div k))
-quotient-of-negation (suc x) k = refl
-
-quotient-of-product : (d : ℤ) (k : ℕ) → 0 < k → quotZ (d *ℤ pos k) (pos k) ≡ d
-quotient-of-product (pos a) k p = ap pos (mul-div-cancel a p)
-quotient-of-product (negsuc a) k p =
-    quotient-of-negation (suc a * k) k ∙ ap (λ (x : ℕ). negℤ (pos x)) (mul-div-cancel (suc a) p)
+size-positive : {n : ℤ} → n ≢ pos 0 → 0 < natAbs n
+size-positive {n} n≢0 = pos-of-ne-zero (λ e. n≢0 (natAbs-zero n e))
 
 pub record IsSplit (n d : ℤ) (s : ℕ) : Type 0 where
   pub product : n ≡ d *ℤ pos (s * s)
@@ -40,20 +33,11 @@ pub record IsSplit (n d : ℤ) (s : ℕ) : Type 0 where
   pub squarefree : Squarefree d
 
 -- ---- existence
-size-positive : {n : ℤ} → n ≢ pos 0 → 0 < natAbs n
-size-positive {n = pos zero} h = absurd (h refl)
-size-positive {n = pos (suc n)} h = omega arith
-size-positive {n = negsuc n} h = omega arith
-
-at-most-root : (k n : ℕ) → k * k ≤ n → k ≤ rootOf n
-at-most-root k n h =
-    le-of-suc-le-suc (order-of-squares k (suc (rootOf n)) (lt-of-le-of-lt h (root-is n .next-square-above)))
-
 pub square-part-is-greatest : (n : ℤ) (k : ℕ) → n ≢ pos 0 → k * k ∣ natAbs n → k ≤ squarePart n
 unfolding squarePart
 square-part-is-greatest n k n≢0 h =
     greatest-is-greatest (λ s. divides (s * s) (natAbs n))
-    (at-most-root k (natAbs n) (le-of-dvd (size-positive n≢0) h))
+    (at-most-root (natAbs n) (le-of-dvd (size-positive n≢0) h))
     (divides-iff (k * k) .1 h)
 
 pub square-part-positive : (n : ℤ) → n ≢ pos 0 → 0 < squarePart n
@@ -65,9 +49,20 @@ square-part-divides n n≢0 =
     divides-iff (squarePart n * squarePart n) .0
     (greatest-holds (λ s. divides (s * s) (natAbs n)) (rootOf (natAbs n)) (square-part-positive n n≢0))
 
+pub square-part-of-zero : squarePart (pos 0) ≡ 0
+unfolding squarePart greatest rootOf least firstFrom
+square-part-of-zero = refl
+
+pub square-part-squared-at-most : (n : ℤ) → squarePart n * squarePart n ≤ natAbs n
+unfolding squarePart
+square-part-squared-at-most n =
+    le-trans
+    (square-≤ (greatest-at-most (λ s. divides (s * s) (natAbs n)) (rootOf (natAbs n))))
+    (root-is (natAbs n) .square-at-most)
+
 split-product : (n : ℤ) → n ≢ pos 0 → n ≡ freePart n *ℤ pos (squarePart n * squarePart n)
 unfolding freePart
-split-product n n≢0 = sym (times-exact-quotient n (squarePart n * squarePart n) (square-part-divides n n≢0))
+split-product n n≢0 = sym (exact-quotient n (squarePart n * squarePart n) (square-part-divides n n≢0))
 
 pub size-of-product : {n : ℤ} (d : ℤ) (s : ℕ) → n ≡ d *ℤ pos (s * s) → natAbs n ≡ natAbs d * (s * s)
 size-of-product d s e = ap natAbs e ∙ natAbs-* d (pos (s * s))
@@ -115,12 +110,13 @@ split-unique {n} {d} {e} {s} {t} p q = (same-factor, same-root)
     same-root : s ≡ t
     same-root = dvd-antisymm (root-divides p q) (root-divides q p)
 
-    factor-is-quotient : {x : ℤ} {r : ℕ} → IsSplit n x r → x ≡ quotZ n (pos (r * r))
-    factor-is-quotient {x} {r} h =
-        sym (quotient-of-product x (r * r) (mul-pos (h .root-positive) (h .root-positive))) ∙ ap (λ m. quotZ m (pos (r * r))) (sym (h .product))
+    square-not-zero : pos (s * s) ≢ pos 0
+    square-not-zero e = ne-of-gt (mul-pos (p .root-positive) (p .root-positive)) (ap natAbs e)
 
     same-factor : d ≡ e
-    same-factor = factor-is-quotient p ∙ ap (λ (r : ℕ). quotZ n (pos (r * r))) same-root ∙ sym (factor-is-quotient q)
+    same-factor =
+        *ℤ-cancel (pos (s * s)) square-not-zero
+        (*ℤ-comm (pos (s * s)) d ∙ sym (p .product) ∙ q .product ∙ ap (λ (r : ℕ). e *ℤ pos (r * r)) (sym same-root) ∙ *ℤ-comm e (pos (s * s)))
 
 pub split-equals : {n d : ℤ} {s : ℕ} → IsSplit n d s → (freePart n ≡ d) × (squarePart n ≡ s)
 split-equals {n} {d} {s} p = split-unique (split-is n not-zero) p

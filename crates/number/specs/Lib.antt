@@ -6,3 +6,5 @@ pub mod Squarefree
 pub mod Square
 pub mod Residue
 pub mod Remainder
+pub mod Split
+pub mod Root

@@ -5,5 +5,10 @@ pub mod Ring
 pub mod Combination
 pub mod Identities
 pub mod Order
-pub mod Magnitude
+pub mod Sums
+pub mod Size
+pub mod Products
+pub mod Cancel
+pub mod Quotient
 pub mod Signed
+pub mod SignedTests

@@ -1,15 +1,14 @@
--- The order of the whole numbers, beyond what `lib.Signed` says of it: a difference that is not negative, sums, negations,
--- products, squares. Each fact is read off the signs: a test of order on two whole numbers is, at each pair of signs, a test
--- on naturals or a constant. Assumes nothing.
-use mathlib.Core.Path.{_≡_, refl, sym, ap, _∙_, subst, subst₂}
+-- The order of the whole numbers, beyond what `lib.Signed` says of it: a total order, that of the naturals, and an order is a
+-- difference that is not negative. A test of order on two whole numbers is, at each pair of signs, a test on naturals or a
+-- constant. Assumes nothing.
+use mathlib.Core.Path.{_≡_, sym, ap, subst}
 use mathlib.Core.Logic.{_≢_, _⊎_, inl, inr}
 use mathlib.Core.Bool.{Bool, true, false, not, cond}
-use Prim.Native.Nat.{ℕ, zero, suc, _+_, _*_, _-_, _≤_, _<_, zero-le}
+use Prim.Native.Nat.{ℕ, zero, suc, _-_, _≤_, _<_, zero-le, suc-le-suc}
 use native.Mathlib.Nat as Nat
-use native.Mathlib.Omega.{arith}
-use lib.Dec.{T, leb, ltb, leb→le, le→leb, ltb→lt, nltb→le, nleb→lt}
-use lib.IntN.{ℤ, pos, negsuc, negℤ, natAbs, subℕ, _+ℤ_, _-ℤ_, _*ℤ_, +ℤ-assoc, +ℤ-comm, +ℤ-idl, +ℤ-idr, +ℤ-invl, +ℤ-invr, negℤ-+ℤ, negℤ-negℤ, *ℤ-comm, *ℤ-zero, zero-*ℤ, pos-ne-negsuc}
-use lib.Signed.{_≤ℤ_, _<ℤ_, leZ, ltZ, nonNeg, leZ-yes, ltZ-yes, ltZ-no, ≤ℤ-refl, <ℤ-≤ℤ-trans, <ℤ-irrefl, clashℤ, yes-nonNeg, pos-natAbs}
+use lib.Dec.{T, ltb, leb→le, le→leb, ltb→lt, nltb→le}
+use lib.IntN.{ℤ, pos, negsuc, natAbs, subℕ, _-ℤ_}
+use lib.Signed.{_≤ℤ_, _<ℤ_, leZ, ltZ, nonNeg, leZ-yes, ltZ-yes, ltZ-no, ≤ℤ-refl, <ℤ-≤ℤ-trans, clashℤ, yes-nonNeg, pos-natAbs}
 
 -- ---- an order
 
@@ -146,10 +145,7 @@ difference-test (pos zero) (pos b) h = tt
 difference-test (pos (suc a)) (pos b) h = nonneg-sub b (suc a) (leb→le (suc a) b h)
 difference-test (pos a) (negsuc b) h = absurd h
 difference-test (negsuc a) (pos b) h = tt
-difference-test (negsuc a) (negsuc b) h = nonneg-sub (suc a) (suc b) (le-up (leb→le b a h))
-  where
-    le-up : b ≤ a → suc b ≤ suc a
-    le-up h = omega arith
+difference-test (negsuc a) (negsuc b) h = nonneg-sub (suc a) (suc b) (suc-le-suc (leb→le b a h))
 
 test-difference : (a b : ℤ) → T (nonNeg (b -ℤ a)) → T (leZ a b)
 test-difference (pos zero) (pos b) h = le→leb 0 b zero-le
