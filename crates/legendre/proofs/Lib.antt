@@ -13,3 +13,12 @@ pub mod Legendre
 pub mod Conditions
 pub mod Choice
 pub mod Answer
+pub mod MachineProducts
+pub mod SameSign
+pub mod Search
+pub mod Reach
+pub mod Heights
+pub mod FailingPrimes
+pub mod LeastOfThree
+pub mod Walks
+pub mod Decision

@@ -2,3 +2,5 @@ pub mod Equation
 pub mod Theorems
 pub mod Outcome
 pub mod Answer
+pub mod Search
+pub mod Reach
