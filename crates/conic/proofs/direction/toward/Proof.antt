@@ -1,0 +1,26 @@
+-- `conic::direction::toward` meets its contract, call by call. Assumes nothing.
+use mathlib.Core.Path.{_≡_, sym, ap, _∙_}
+use mathlib.Core.Bool.{true, false}
+use borrow.Author.Needs.{needs}
+use Rattle.conic.specs.Direction.{isSame}
+use Rattle.conic.proofs.Entries.{when, unless}
+use Rattle.conic.proofs.direction.toward.Statement.{statement}
+use Rattle.conic.proofs.direction.toward.Tie as tie
+
+is-same-requires : tie.Need-is-same-requires
+is-same-requires c κs = search needs
+
+tangent-requires : tie.Need-tangent-requires
+tangent-requires c κs = search needs
+
+chord-requires : tie.Need-chord-requires
+chord-requires c κs = search needs
+
+returns : tie.Need-returns
+returns c = c .tangent .ensures ∙ when _ _ (sym (c .before .before .is-same .ensures) ∙ c .before .if1 .taken)
+
+returns-2 : tie.Need-returns-2
+returns-2 c = c .chord .ensures ∙ unless _ _ (sym (c .before .before .is-same .ensures) ∙ c .before .if1 .left)
+
+pub toward-spec : {M : Type 1} → statement M
+toward-spec = tie.close (tie.spec is-same-requires tangent-requires chord-requires returns returns-2)

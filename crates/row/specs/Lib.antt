@@ -1,0 +1,7 @@
+pub mod Reading
+pub mod Steps
+pub mod Writing
+pub mod Buffer
+pub mod Texts
+pub mod Row
+pub mod Theorems

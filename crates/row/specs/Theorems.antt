@@ -1,0 +1,33 @@
+-- What holds of text rows, as statements: the promise has one answer, a row's text tells its answer, a row fits the smallest buffer,
+-- and a text above 47 bytes is no row. Assumes nothing.
+use mathlib.Core.List.{List}
+use mathlib.Core.Option.{none}
+use mathlib.Core.Path.{_≡_}
+use Prim.Native.Nat.{ℕ, _≤_, _<_}
+use lib.ListN.{length}
+use Rattle.conic.specs.Paper.{Verdict}
+use Rattle.row.specs.Reading.{readRow}
+use Rattle.row.specs.Writing.{rowText}
+use Rattle.row.specs.Row.{RowPromise, rowOf, bufferLimit}
+use Rattle.row.specs.declared.Written.{Written}
+
+-- any two answers that the promise allows are equal, and so are the buffers
+unfoldable pub PromiseIsOne : Type 0
+PromiseIsOne =
+    (text before : List ℕ) (r r' : Written) (after after' : List ℕ) →
+    RowPromise text before r after → RowPromise text before r' after' → (r ≡ r') × (after ≡ after')
+
+-- two answers with the same row text are equal
+unfoldable pub RowTellsAnswer : Type 0
+RowTellsAnswer = (v v' : Verdict) → rowText v ≡ rowText v' → v ≡ v'
+
+-- a buffer that is long enough to be taken holds every row
+unfoldable pub RowsFit : Type 0
+RowsFit = (text : List ℕ) → length (rowOf text) ≤ bufferLimit
+
+-- six numbers of seven bytes, and five spaces
+abbrev pub longestText : ℕ
+longestText = 47
+
+unfoldable pub LongTextIsNoRow : Type 0
+LongTextIsNoRow = (text : List ℕ) → longestText < length text → readRow text ≡ none
