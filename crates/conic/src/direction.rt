@@ -1,9 +1,11 @@
 // Directions from a base point: the point that a direction leads to, and the direction to a point.
-use crate::base::{judge, Judged};
+use crate::base::Judged;
+use crate::base::judge;
 use crate::conic::Conic;
 use crate::line;
 use crate::paper::Refusal;
-use crate::point::{Direction, Point};
+use crate::point::Direction;
+use crate::point::Point;
 use crate::size;
 ghost use mathlib.Core.Path.{_≡_};
 ghost use mathlib.Core.Bool.{cond};
@@ -82,7 +84,15 @@ fn point_from(h: Conic, p: Point, t: Direction) -> Point
     requires { ⌜ ConicAlong h p (atInfinity t) ⌝ }
     ensures { λ r. ⌜ r ≡ pointFrom h p t ⌝ }
 {
-    line::other_point(h, p, Point { x: t.u, y: t.v, z: 0 })
+    line::other_point(
+        h,
+        p,
+        Point {
+            x: t.u,
+            y: t.v,
+            z: 0,
+        },
+    )
 }
 
 // Direction to point, of any numbers: some hundred steps and four greatest common divisors.
