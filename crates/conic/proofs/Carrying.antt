@@ -14,7 +14,7 @@ use Rattle.conic.specs.Solve.{isZero, firstLine, secondLine, thirdLine, 
 use Rattle.conic.specs.Sizes.{InLimit, PointWithin, LineWithin, ConicAlong, CanLevel, CarriedFrom}
 use Rattle.conic.specs.declared.point.Point.{Point}
 use Rattle.conic.specs.declared.conic.Conic.{Conic}
-use Rattle.conic.proofs.Levelling.{Levellable, level, level-unique, levelled-by-own, g-positive}
+use Rattle.conic.proofs.Levelling.{Levellable, level-unique, levelled-by-own, g-positive}
 use Rattle.conic.proofs.Sizes.{primed-within}
 use Rattle.conic.proofs.Infinity.{start-within}
 

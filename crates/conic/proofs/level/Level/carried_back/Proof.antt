@@ -4,8 +4,8 @@ use mathlib.Core.Path.{_≡_, sym, ap, _∙_, subst}
 use lib.Dec.{lit≤}
 use borrow.Author.Needs.{needs, sfits-of}
 use Rattle.conic.specs.Level.{primed, fromPrimed, carriedBack}
-use Rattle.conic.specs.Normal.{normal, normalWithin, largest}
-use Rattle.conic.specs.Sizes.{CarriedFrom, PointWithin, PrimedAt}
+use Rattle.conic.specs.Normal.{normal, normalWithin}
+use Rattle.conic.specs.Sizes.{CarriedFrom, PrimedAt}
 use Rattle.conic.specs.declared.conic.Conic.{Conic}
 use Rattle.conic.specs.declared.level.Level.{Level}
 use Rattle.conic.specs.declared.point.Point.{Point}

@@ -1,10 +1,9 @@
 -- `conic::level::Level::primed` meets its contract: s, t and g are at least 1, so each product on the way is at most the last.
 -- Assumes nothing.
-use mathlib.Core.Path.{_≡_, refl, sym, ap, _∙_, subst}
+use mathlib.Core.Path.{_≡_, refl, sym, _∙_}
 use mathlib.Core.List.{[], _∷_}
-use Prim.Native.Nat.{ℕ, _*_, _≤_, _<_}
+use Prim.Native.Nat.{ℕ, _≤_}
 use native.Mathlib.Nat.{le-trans, le-of-eq, le-mul-of-pos-right, mul-comm}
-use native.Mathlib.Omega.{arith}
 use lib.IntN.{ℤ, pos, negsuc, natAbs, _*ℤ_}
 use lib.Signed.{_<ℤ_}
 use mir.Syntax.{w64}
@@ -13,12 +12,11 @@ use mir.Val.{SFits, toZ, ofZ}
 use Rattle.whole.proofs.Order.{<-of-pos}
 use Rattle.whole.proofs.Ring.{by-ring, reify}
 use Rattle.whole.proofs.Size.{natAbs-*}
-use Rattle.whole.proofs.Signed.{Sized, Stored, operation, kept, in-range, read-back, cast-at-most, casts, ranges, fits, reads}
+use Rattle.whole.proofs.Signed.{Sized, operation, kept, in-range, read-back, cast-at-most, casts, fits, reads}
 use Rattle.legendre.specs.declared.outcome.Triple.{Triple}
 use Rattle.conic.specs.Level.{primed}
 use Rattle.conic.specs.Sizes.{Carries, limit-X', limit-Y', limit-W'}
 use Rattle.conic.specs.declared.level.Level.{Level}
-use Rattle.conic.specs.declared.point.Point.{Point}
 use Rattle.conic.proofs.Vector.{same-point}
 use Rattle.conic.proofs.level.Level.primed.Statement.{statement}
 use Rattle.conic.proofs.level.Level.primed.Tie as tie

@@ -1,10 +1,8 @@
 -- `conic::point::Point::divisor` meets its contract: a common factor is at most the largest of the numbers, so it and its negation
 -- fit. Assumes nothing.
 use mathlib.Core.Path.{_≡_, refl, ap₂, _∙_}
-use mathlib.Core.Logic.{⊎-elim}
 use Prim.Native.Nat.{ℕ, zero, suc, _≤_}
 use native.Mathlib.Nat.{le-of-dvd, zero-lt-suc, le-of-eq, le-trans}
-use native.Mathlib.Omega.{arith}
 use lib.IntN.{ℤ, pos, negsuc, negℤ, natAbs, _-ℤ_, +ℤ-idl}
 use lib.Signed.{_<ℤ_, _≤ℤ_, clashℤ}
 use mir.Syntax.{w64}
@@ -19,8 +17,6 @@ use Rattle.conic.specs.Sizes.{PointWithin}
 use Rattle.conic.specs.declared.point.Point.{Point}
 use Rattle.conic.proofs.point.Point.divisor.Statement.{statement}
 use Rattle.conic.proofs.point.Point.divisor.Tie as tie
-use Rattle.conic.proofs.point.Point.divisor.Reads as reads′
-use Rattle.conic.proofs.point.Point.divisor.Lts as lts
 
 gcd-at-most : {n a : ℕ} (b : ℕ) → a ≤ n → b ≤ n → gcdOf a b ≤ n
 gcd-at-most {a} zero h k = le-trans (le-of-eq (gcd-zero a)) h

@@ -1,13 +1,13 @@
 -- `conic::point::Point::normal` meets its contract: where each number has a negation, dividing by the common factor with the leading
 -- sign is the normal form. Assumes nothing.
 use mathlib.Core.Path.{_≡_, refl, sym, ap, _∙_, subst}
-use mathlib.Core.Bool.{true, _&&_}
+use mathlib.Core.Bool.{_&&_}
 use lib.IntN.{ℤ}
 use mir.Syntax.{w64}
 use mir.Val.{SFits, toZ, ofZ}
 use mir.Facts.{toZ-ofZ}
 use borrow.Author.Needs.{needs, sfits-of}
-use Rattle.conic.specs.Normal.{commonFactor, leading, signed, over, normal, normalWithin, largest}
+use Rattle.conic.specs.Normal.{commonFactor, leading, signed, over, normal, largest}
 use Rattle.conic.specs.Paper.{within}
 use Rattle.conic.specs.Sizes.{PointWithin}
 use Rattle.conic.specs.declared.point.Point.{Point}
@@ -16,8 +16,6 @@ use Rattle.conic.proofs.Passed.{passed, tested}
 use Rattle.conic.proofs.Vector.{same-point}
 use Rattle.conic.proofs.point.Point.normal.Statement.{statement}
 use Rattle.conic.proofs.point.Point.normal.Tie as tie
-use Rattle.conic.proofs.point.Point.normal.Reads as reads
-use Rattle.conic.proofs.point.Point.normal.Lts as lts
 
 -- the point as it is stored
 abbrev stored : ℤ → ℤ → ℤ → Point
