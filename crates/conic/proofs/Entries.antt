@@ -9,7 +9,7 @@ use Rattle.conic.specs.Demand3.{LegalBase}
 use Rattle.conic.specs.Direction.{isBase, isTarget, isDirection, fromBase, pointFrom, directionTo, pointOf, directionOf}
 use Rattle.conic.specs.Form.{G, L, D, Δ}
 use Rattle.conic.specs.Judged.{Judgement, legal, refused, judgedOf}
-use Rattle.conic.specs.Paper.{Verdict, Bearing, point, refusal, direction, no-direction, inRange}
+use Rattle.conic.specs.Paper.{point, refusal, direction, no-direction, inRange}
 use Rattle.conic.specs.Solve.{isZero, isSquareNumber, firstLine, secondLine, thirdLine, trialLine, fromInfinity, solveLevelled, solveNonDegenerate, solveOf}
 use Rattle.conic.specs.declared.point.Point.{Point}
 use Rattle.conic.specs.declared.point.Direction.{Direction}

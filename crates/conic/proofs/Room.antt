@@ -9,7 +9,6 @@ use Rattle.whole.proofs.Signed.{sizes, bounds}
 use Rattle.number.proofs.Least.{true-of-T}
 use Rattle.conic.specs.Demand3.{LegalBase}
 use Rattle.conic.specs.Direction.{isSame, isNormal, isBase, isTarget, isDirection, tangent, chord}
-use Rattle.conic.specs.Form.{Gx, Gy}
 use Rattle.conic.specs.Normal.{largest, atInfinity}
 use Rattle.conic.specs.Paper.{pointLimit, pointInLimit, directionInLimit}
 use Rattle.conic.specs.Sizes.{PointWithin, ConicAt, ConicAlong}

@@ -4,7 +4,7 @@ use lib.IntN.{pos}
 use mir.Syntax.{w64}
 use mir.Val.{toZ, ofZ}
 use mir.Facts.{toZ-ofZ}
-use borrow.Author.Needs.{needs, sfits-of}
+use borrow.Author.Needs.{sfits-of}
 use Rattle.conic.specs.Direction.{pointFrom}
 use Rattle.conic.specs.Normal.{normal, atInfinity}
 use Rattle.conic.specs.Sizes.{ConicAlong}

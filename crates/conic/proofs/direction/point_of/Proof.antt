@@ -1,7 +1,7 @@
 -- `conic::direction::point_of` meets its contract: each refusal is given where the definition's tests give it, and past them the step
 -- has room. Assumes nothing.
 use mathlib.Core.Path.{_≡_, sym, ap, _∙_}
-use mathlib.Core.Bool.{true, false}
+use mathlib.Core.Bool.{true}
 use borrow.Author.Needs.{needs}
 use Rattle.conic.specs.Direction.{isDirection}
 use Rattle.conic.specs.Judged.{legal, judged, judgedOf}

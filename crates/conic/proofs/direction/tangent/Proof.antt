@@ -1,6 +1,6 @@
 -- `conic::direction::tangent` meets its contract: the derivatives have negations. Assumes nothing.
-use mathlib.Core.Path.{_≡_, refl, ap, _∙_}
-use lib.IntN.{ℤ, pos, negℤ, _-ℤ_, +ℤ-idl}
+use mathlib.Core.Path.{_≡_, refl, _∙_}
+use lib.IntN.{pos, negℤ, _-ℤ_, +ℤ-idl}
 use mir.Syntax.{w64}
 use borrow.Author.Needs.{needs}
 use Rattle.whole.proofs.Signed.{sizes, fits, reads}

@@ -1,8 +1,6 @@
 -- `conic::direction::toward` meets its contract, call by call. Assumes nothing.
-use mathlib.Core.Path.{_≡_, sym, ap, _∙_}
-use mathlib.Core.Bool.{true, false}
+use mathlib.Core.Path.{sym, _∙_}
 use borrow.Author.Needs.{needs}
-use Rattle.conic.specs.Direction.{isSame}
 use Rattle.conic.proofs.Entries.{when, unless}
 use Rattle.conic.proofs.direction.toward.Statement.{statement}
 use Rattle.conic.proofs.direction.toward.Tie as tie

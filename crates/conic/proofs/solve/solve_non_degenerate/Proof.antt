@@ -1,7 +1,7 @@
 -- `conic::solve::solve_non_degenerate` meets its contract: from infinity where −D is a square, and else by the levelled equation.
 -- Assumes nothing.
 use mathlib.Core.Path.{_≡_, sym, ap, _∙_}
-use mathlib.Core.Bool.{true, false}
+use mathlib.Core.Bool.{false}
 use lib.IntN.{negℤ}
 use Rattle.number.proofs.Least.{not-true-of-false}
 use Rattle.conic.specs.Form.{D}

@@ -6,7 +6,8 @@ use Rattle.conic.specs.Sizes.{ConicAt, ConicAlong}
 use Rattle.conic.specs.Solve.{drawn, startAtInfinity, trialLine, fromInfinity}
 use Rattle.conic.specs.declared.point.Point.{Point}
 use Rattle.conic.specs.declared.conic.Conic.{Conic}
-use Rattle.conic.proofs.Carrying.{start-in-limit, trial-line-within}
+use Rattle.conic.proofs.Bounds.{at-start}
+use Rattle.conic.proofs.Carrying.{from-start}
 use Rattle.conic.proofs.trial.from_infinity.Statement.{statement}
 use Rattle.conic.proofs.trial.from_infinity.Tie as tie
 
@@ -21,15 +22,13 @@ start-requires c κs = search needs
 trial-line-requires : tie.Need-trial-line-requires
 trial-line-requires c κs =
     let h = c .before .args .h in
-    subst (ConicAt h) (sym (c .start .ensures)) (record { conic = c .before .pre; point = start-in-limit h (c .before .pre) })
+    subst (ConicAt h) (sym (c .start .ensures)) (at-start (from-start h (c .before .pre)))
 
 other-point-requires : tie.Need-other-point-requires
 other-point-requires c κs =
     let h = c .before .before .args .h in
-    let s = c .before .start .result in
-    let at = trial-line-requires (c .before) κs in
-    subst (ConicAlong h s) (sym (c .trial-line .ensures))
-    (record { conic = at .conic; from = at .point; along = trial-line-within h s })
+    subst (ConicAlong h (c .before .start .result)) (sym (c .trial-line .ensures))
+    (subst (λ (s : Point). ConicAlong h s (trialLine h s)) (sym (c .before .start .ensures)) (from-start h (c .before .before .pre)))
 
 returns : tie.Need-returns
 returns c = drawn-from-start (c .before .before .before .args .h) (c .before .before .start .ensures) (c .before .trial-line .ensures) (c .other-point .ensures)

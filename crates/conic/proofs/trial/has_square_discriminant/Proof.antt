@@ -1,19 +1,18 @@
 -- `conic::trial::has_square_discriminant` meets its contract: −D is a square exactly if D is at most 0 and its size a square.
 -- Assumes nothing.
 use mathlib.Core.Path.{_≡_, refl, sym, ap, _∙_}
-use mathlib.Core.Bool.{Bool, true, false, true≢false}
+use mathlib.Core.Bool.{true, false, true≢false}
 use Prim.Native.Nat.{zero, suc}
 use lib.Dec.{leb·suc-zero}
 use lib.IntN.{ℤ, pos, negsuc, negℤ, natAbs}
 use lib.Signed.{leZ}
 use mir.Syntax.{w64}
-use mir.Val.{SFits, toZ, ofZ}
+use mir.Val.{toZ, ofZ}
 use mir.Facts.{toZ-ofZ}
 use borrow.Author.Needs.{needs, sfits-of}
 use Rattle.number.specs.Square.{isSquare}
 use Rattle.conic.specs.Form.{D}
 use Rattle.conic.specs.Solve.{isSquareNumber}
-use Rattle.conic.proofs.Passed.{passed}
 use Rattle.conic.proofs.trial.has_square_discriminant.Statement.{statement}
 use Rattle.conic.proofs.trial.has_square_discriminant.Tie as tie
 
