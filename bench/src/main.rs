@@ -3,6 +3,7 @@
 
 use second::generate::spelled;
 use second::prng::Prng;
+use second::{Answer, Reason};
 use std::fs::File;
 use std::process::{Command, Stdio};
 use std::time::Instant;
@@ -34,6 +35,30 @@ fn main() {
     match gp(&conics[..GP_ROWS], &folder) {
         Some(seconds) => told("PARI/GP qfsolve", seconds * (ROWS / GP_ROWS) as f64, measure),
         None => println!("PARI/GP qfsolve: gp is not installed"),
+    }
+    split(&conics, &texts);
+}
+
+/// What a row costs on the average: conics that end by sign are levelled and no more, those that end by a prime take residues
+/// too, those with a point walk the box besides; text is what a row costs above the call.
+fn split(conics: &[[i64; 6]], texts: &[Vec<u8>]) {
+    let of = |ends: fn(Answer) -> bool| -> f64 {
+        let chosen: Vec<[i64; 6]> = conics.iter().copied().filter(|six| ends(second::solve(*six))).collect();
+        library_call(&chosen) / chosen.len() as f64
+    };
+    let by_sign = of(|answer| answer == Answer::None(Reason::Sign));
+    let by_prime = of(|answer| matches!(answer, Answer::None(Reason::Prime(_))));
+    let with_point = of(|answer| matches!(answer, Answer::Point(_)));
+    let text = (library_rows(texts) - library_call(conics)) / conics.len() as f64;
+    println!("the cost of a row with a point, in parts of the whole:");
+    let whole = with_point + text;
+    for (name, part) in [
+        ("levelling", by_sign),
+        ("residues", by_prime - by_sign),
+        ("box", with_point - by_prime),
+        ("text", text),
+    ] {
+        println!("{name:<26} {:.2}", part / whole);
     }
 }
 

@@ -1,9 +1,9 @@
 -- The answer to a levelled equation: none by sign exactly if the three are of one sign; else a prime, which is then the least failing one;
 -- else the chosen solution of the box, which holds one by Legendre's theorem and Holzer's bound. The prime
 -- is never 2, modulo which every number is a square. Assumes nothing.
-use mathlib.Core.Path.{_≡_, refl, sym, ap, subst, _∙_}
+use mathlib.Core.Path.{_≡_, subst}
 use mathlib.Core.Logic.{_⊎_, inl, inr, ⊎-elim, _↔_}
-use mathlib.Core.Bool.{Bool, true, false, _&&_, _||_, false≢true}
+use mathlib.Core.Bool.{true, _&&_}
 use Prim.Native.Nat.{ℕ, _≤_, _<_}
 use native.Mathlib.Omega.{arith}
 use borrow.Author.Tests.{ltb-true, ltb-false, lt-ltb, le-ltb}
@@ -20,11 +20,12 @@ use Rattle.legendre.specs.Answer.{SignExactly, SolutionExactly, Chosen, 
 use Rattle.legendre.specs.declared.outcome.Triple.{Triple}
 use Rattle.legendre.specs.declared.outcome.Outcome.{Outcome}
 use Rattle.legendre.specs.declared.outcome.Outcome.the-variants.{Sign, Prime, Solution}
+use Rattle.legendre.proofs.Tests.{all-three-iff, either-iff}
 use Rattle.legendre.proofs.Sign.{noneBySign}
 use Rattle.legendre.proofs.Legendre.{legendre}
 use Rattle.legendre.proofs.Holzer.{holzer}
-use Rattle.legendre.proofs.Conditions.{all-three-iff, least-failing-found, none-fails, least-failing-equals, failing-below-limit, square-modulo-two}
-use Rattle.legendre.proofs.Choice.{chosen-is-chosen, chosen-unique}
+use Rattle.legendre.proofs.Conditions.{least-failing-found, none-fails, square-modulo-two}
+use Rattle.legendre.proofs.Choice.{chosen-is-chosen}
 
 -- ---- one sign and its test
 
@@ -39,10 +40,6 @@ all-below-iff {a} {b} {c} {d} {e} {f} = (
   where
     tests : (ltZ a b && ltZ c d && ltZ e f ≡ true) ↔ ((ltZ a b ≡ true) × (ltZ c d ≡ true) × (ltZ e f ≡ true))
     tests = all-three-iff (ltZ a b) (ltZ c d) (ltZ e f)
-
-either-iff : (a b : Bool) → (a || b ≡ true) ↔ ((a ≡ true) ⊎ (b ≡ true))
-either-iff true b = (inl, λ h. refl)
-either-iff false b = (inr, λ h. ⊎-elim (λ e. absurd (false≢true e)) (λ e. e) h)
 
 one-sign-iff : (p g q : ℤ) → (isOneSign p g q ≡ true) ↔ OneSign p g q
 unfolding isOneSign
@@ -117,13 +114,6 @@ primeIsLeastFailing p g q l levelled e = go (way p g q)
     go (by-prime mixed found) = subst (LeastFailing p g q) (same (outcome-least mixed found)) (least-failing-found p g q found)
     go (by-solution mixed none) = absurd (not-prime-and-solution e (outcome-chosen mixed none))
 
-pub outcome-prime : {p g q : ℤ} {l : ℕ} → Levelled p g q → ¬ OneSign p g q → LeastFailing p g q l → outcomeOf p g q ≡ Prime l
-outcome-prime {p} {g} {q} {l} levelled mixed h =
-    outcome-least mixed (subst (λ (m : ℕ). m < primeLimit p g q) (sym same) (failing-below-limit levelled (h .fails))) ∙ ap Prime same
-  where
-    same : leastFailing p g q ≡ l
-    same = least-failing-equals levelled h
-
 -- ---- by the chosen solution
 
 -- not of one sign, and the condition holds at every prime: the walk of the box ends at a solution
@@ -147,12 +137,6 @@ outcome-solvable {p} {g} {q} levelled s = outcome-chosen mixed (omega (arith, no
 chosen-of-solvable : {p g q : ℤ} → Levelled p g q → Solvable p g q → Chosen p g q (chosen p g q)
 unfolding Holzer
 chosen-of-solvable {p} {g} {q} levelled s = chosen-is-chosen p g q (squarefree-not-zero (levelled .squarefree-g)) (holzer p g q levelled s)
-
-pub outcome-solution : {p g q : ℤ} {t : Triple} → Levelled p g q → Chosen p g q t → outcomeOf p g q ≡ Solution t
-outcome-solution {p} {g} {q} {t} levelled h = outcome-solvable levelled s ∙ ap Solution (chosen-unique (chosen-of-solvable levelled s) h)
-  where
-    s : Solvable p g q
-    s = solvable (h .in-box)
 
 pub solutionIsChosen : SolutionIsChosen
 unfolding SolutionIsChosen

@@ -15,13 +15,13 @@ use Rattle.whole.proofs.Ring.{by-ring, reify}
 use Rattle.whole.proofs.Combination.{combine, _⊠_}
 use Rattle.whole.proofs.Size.{natAbs-neg, natAbs-zero, natAbs-positive, natAbs-*}
 use Rattle.number.specs.Square.{rootOf}
-use Rattle.number.proofs.Least.{least-holds, least-is-least, least-found}
+use Rattle.number.proofs.Least.{le-of-not-above, least-holds, least-is-least, least-found}
 use Rattle.number.proofs.Square.{root-is, root-of-square, at-most-root, square-≤}
 use Rattle.legendre.specs.Equation.{form, Solution, BoxSolution, SolvableInBox}
 use Rattle.legendre.specs.Outcome.{side, solves, leastY, leastX, leastW, chosen}
 use Rattle.legendre.specs.Answer.{Chosen}
 use Rattle.legendre.specs.declared.outcome.Triple.{Triple}
-use Rattle.legendre.proofs.Conditions.{all-three-iff, not-iff}
+use Rattle.legendre.proofs.Tests.{all-three-iff, not-iff}
 
 -- ---- the box and its tests
 
@@ -95,28 +95,18 @@ equation-iff p g q x y w = (
   λ e. combine (pos 1 ⊠ e) (by-ring (p ∷ g ∷ q ∷ x ∷ y ∷ w ∷ []) (search reify depth 64 fits 9999) tt),
 )
 
--- so Y is the root of |pX² + qW²| / |g|
-pub y-is-root : {p g q : ℤ} {x w : ℕ} (y : ℕ) → g ≢ pos 0 → Solution p g q (pos x) (pos y) (pos w)
+-- so the sizes are equal
+pub size-of-terms : {p g q : ℤ} {x w : ℕ} (y : ℕ) → Solution p g q (pos x) (pos y) (pos w)
+    → natAbs (p *ℤ (pos x *ℤ pos x) +ℤ q *ℤ (pos w *ℤ pos w)) ≡ natAbs g * (y * y)
+size-of-terms {p} {g} {q} {x} {w} y s =
+    sym (natAbs-neg (p *ℤ (pos x *ℤ pos x) +ℤ q *ℤ (pos w *ℤ pos w)))
+    ∙ ap natAbs (sym (equation-iff p g q (pos x) (pos y) (pos w) .0 (s .equation))) ∙ natAbs-* g (pos (y * y))
+
+-- and Y is the root of |pX² + qW²| / |g|
+y-is-root : {p g q : ℤ} {x w : ℕ} (y : ℕ) → g ≢ pos 0 → Solution p g q (pos x) (pos y) (pos w)
     → y ≡ rootOf (natAbs (p *ℤ (pos x *ℤ pos x) +ℤ q *ℤ (pos w *ℤ pos w)) / natAbs g)
-y-is-root {p} {g} {q} {x} {w} y g≢0 s = sym (ap rootOf quotient ∙ root-of-square y)
-  where
-    rest : ℤ
-    rest = p *ℤ (pos x *ℤ pos x) +ℤ q *ℤ (pos w *ℤ pos w)
-
-    size : natAbs rest ≡ natAbs g * (y * y)
-    size = sym (natAbs-neg rest) ∙ ap natAbs (sym (equation-iff p g q (pos x) (pos y) (pos w) .0 (s .equation))) ∙ natAbs-* g (pos (y * y))
-
-    quotient : natAbs rest / natAbs g ≡ y * y
-    quotient = ap (λ (n : ℕ). n / natAbs g) size ∙ mul-div-cancel-left (y * y) (natAbs-positive g≢0)
-
--- only that root is to be tried
-pub none-by-root : {p g q : ℤ} {x w : ℕ} → g ≢ pos 0
-    → ¬ BoxSolution p g q x (rootOf (natAbs (p *ℤ (pos x *ℤ pos x) +ℤ q *ℤ (pos w *ℤ pos w)) / natAbs g)) w
-    → (b : ℕ) → ¬ BoxSolution p g q x b w
-none-by-root {p} {g} {q} {x} {w} g≢0 none b there = none (subst (λ (n : ℕ). BoxSolution p g q x n w) (y-is-root b g≢0 (there .solution)) there)
-
-not-above : {m n : ℕ} → ¬ (n < m) → m ≤ n
-not-above h = omega arith
+y-is-root {g} y g≢0 s =
+    sym (ap (λ (n : ℕ). rootOf (n / natAbs g)) (size-of-terms y s) ∙ ap rootOf (mul-div-cancel-left (y * y) (natAbs-positive g≢0)) ∙ root-of-square y)
 
 -- the walk by W, and for each W by X
 pub chosen-by-walk : {p g q : ℤ} (x y w : ℕ) → g ≢ pos 0 → BoxSolution p g q x y w
@@ -129,17 +119,17 @@ chosen-by-walk {p} {g} {q} x y w g≢0 here no-smaller-w no-smaller-x = record {
     compare-x a b there = ⊎-elim
         (λ e. inr (e, y-is-root y g≢0 (here .solution) ∙ sym (y-is-root b g≢0 (subst (λ (n : ℕ). Solution p g q (pos n) (pos b) (pos w)) (sym e) (there .solution)))))
         inl
-        (eq-or-lt-of-le (not-above (λ h. no-smaller-x a b h there)))
+        (eq-or-lt-of-le (le-of-not-above (λ h. no-smaller-x a b h there)))
 
     compare-w : (a b c : ℕ) → BoxSolution p g q a b c → (w < c) ⊎ ((w ≡ c) × (x < a)) ⊎ ((w ≡ c) × (x ≡ a) × (y ≡ b))
     compare-w a b c there = ⊎-elim
         (λ e. inr (⊎-elim (λ h. inl (e, h)) (λ h. inr (e, h .0, h .1)) (compare-x a b (subst (BoxSolution p g q a b) (sym e) there))))
         inl
-        (eq-or-lt-of-le (not-above (λ h. no-smaller-w a b c h there)))
+        (eq-or-lt-of-le (le-of-not-above (λ h. no-smaller-w a b c h there)))
 
 -- a walk that has found nothing below w, where the box holds a solution, is still in the box
 pub walk-in-box : {p g q : ℤ} {w : ℕ} → SolvableInBox p g q → ((a b c : ℕ) → c < w → ¬ BoxSolution p g q a b c) → w * w ≤ natAbs (p *ℤ g)
-walk-in-box {w} found none = le-trans (square-≤ (not-above (λ h. none (found .x) (found .y) (found .w) h (found .solution)))) (found .solution .w-within)
+walk-in-box {w} found none = le-trans (square-≤ (le-of-not-above (λ h. none (found .x) (found .y) (found .w) h (found .solution)))) (found .solution .w-within)
 
 -- ---- the searches find it
 

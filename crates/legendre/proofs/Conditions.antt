@@ -1,44 +1,29 @@
 -- Legendre's condition at a prime and the tests that decide it; a prime at which it fails divides one of the three, so it is below the
 -- limit of the search, and the search finds the least one. Modulo 2 every number is a square. Assumes nothing.
-use mathlib.Core.Path.{_≡_, refl, sym, subst}
+use mathlib.Core.Path.{_≡_, sym, subst}
 use mathlib.Core.Logic.{_↔_, Dec·of-iff, Dec·not-not, by-cases}
-use mathlib.Core.Bool.{Bool, true, false, _&&_, _||_, not, false≢true, Bool-discrete, and-eq-true-iff}
-use Prim.Native.Nat.{ℕ, zero, suc, _*_, _≤_, _<_}
-use native.Mathlib.Nat.{le-of-lt, lt-of-not-le, not-le-of-lt}
+use mathlib.Core.Bool.{Bool, true, false, _&&_, _||_, not, Bool-discrete, and-eq-true-iff}
+use Prim.Native.Nat.{ℕ, _≤_, _<_}
+use native.Mathlib.Nat.{lt-of-not-le, not-le-of-lt}
 use native.Mathlib.Omega.{arith}
 use lib.IntN.{ℤ, pos, negℤ, natAbs, _*ℤ_}
 use Rattle.whole.proofs.Size.{natAbs-positive}
 use Rattle.number.specs.Divides.{_∣ℤ_, divides}
-use Rattle.number.specs.Gcd.{Coprime}
 use Rattle.number.specs.Prime.{Prime, isPrime}
 use Rattle.number.specs.Remainder.{remainderOf}
 use Rattle.number.specs.Residue.{SquareModulo, isSquareModulo}
 use Rattle.number.specs.Squarefree.{Squarefree}
 use Rattle.number.proofs.Congruence.{Congruent, remainder-below, remainder-congruent}
-use Rattle.number.proofs.Divides.{decide-∣ℤ, divides-sizes-iff, divisor-size-bound, sizes-divide, ∣ℤ-times-left, ∣ℤ-times-right}
-use Rattle.number.proofs.Least.{least-holds, fails-below-least, least-found, least-equals, not-true-of-false, false-of-not-true}
-use Rattle.number.proofs.Gcd.{coprime-common-divisor}
-use Rattle.number.proofs.Prime.{isPrime-iff, prime-not-one}
+use Rattle.number.proofs.Divides.{decide-∣ℤ, divides-sizes-iff, divisor-size-bound, ∣ℤ-times-left, ∣ℤ-times-right}
+use Rattle.number.proofs.Least.{least-holds, fails-below-least, least-found, not-true-of-false, false-of-not-true}
+use Rattle.number.proofs.Prime.{isPrime-iff}
+use Rattle.number.proofs.Square.{own-square}
 use Rattle.number.proofs.Residues.{is-square-modulo-iff, square-by-root}
 use Rattle.number.proofs.Squarefree.{squarefree-not-zero}
 use Rattle.legendre.specs.Equation.{Levelled, ConditionAt}
 use Rattle.legendre.specs.Outcome.{holdsFor, failsAt, primeLimit, leastFailing}
 use Rattle.legendre.specs.Answer.{LeastFailing}
-
--- ---- tests joined
-
-pub all-three-iff : (a b c : Bool) → (a && b && c ≡ true) ↔ ((a ≡ true) × (b ≡ true) × (c ≡ true))
-all-three-iff true true c = (λ e. (refl, refl, e), λ h. h .2)
-all-three-iff true false c = (λ e. absurd (false≢true e), λ h. h .1)
-all-three-iff false b c = (λ e. absurd (false≢true e), λ h. h .0)
-
-implied-iff : (a b : Bool) → (not a || b ≡ true) ↔ (a ≡ true → b ≡ true)
-implied-iff true b = (λ e h. e, λ f. f refl)
-implied-iff false b = (λ e h. absurd (false≢true h), λ f. refl)
-
-pub not-iff : (b : Bool) → (not b ≡ true) ↔ ¬ (b ≡ true)
-not-iff true = (λ e h. false≢true e, λ f. absurd (f refl))
-not-iff false = (λ e h. false≢true h, λ f. refl)
+use Rattle.legendre.proofs.Tests.{all-three-iff, implied-iff, not-iff}
 
 -- ---- the condition and its tests
 
@@ -94,31 +79,6 @@ fails-at-iff {l} p g q = (
     condition : not (holdsAt p g q l) && isPrime l ≡ true → (holdsAt p g q l ≡ true) ↔ ConditionAt l p g q
     condition e = condition-iff (prime-positive (isPrime-iff .0 (tests .0 e .1))) p g q
 
--- ---- at a prime that divides one of the three
-
--- it does not divide the other two, so the condition is what it says there
-module _ {l : ℕ} {p g q : ℤ} (levelled : Levelled p g q) (prime : Prime l) where
-  not-both : {a b : ℤ} → Coprime a b → pos l ∣ℤ a → ¬ (pos l ∣ℤ b)
-  not-both coprime h k = prime-not-one prime (coprime-common-divisor coprime l (sizes-divide h) (sizes-divide k))
-
-  pub condition-at-p : pos l ∣ℤ p → ConditionAt l p g q ↔ SquareModulo l (negℤ (g *ℤ q))
-  condition-at-p d = (
-    λ h. h .at-p d,
-    λ s. record { at-p = λ _. s; at-g = λ h. absurd (not-both (levelled .coprime-pg) d h); at-q = λ h. absurd (not-both (levelled .coprime-qp) h d) },
-  )
-
-  pub condition-at-g : pos l ∣ℤ g → ConditionAt l p g q ↔ SquareModulo l (negℤ (p *ℤ q))
-  condition-at-g d = (
-    λ h. h .at-g d,
-    λ s. record { at-p = λ h. absurd (not-both (levelled .coprime-pg) h d); at-g = λ _. s; at-q = λ h. absurd (not-both (levelled .coprime-gq) d h) },
-  )
-
-  pub condition-at-q : pos l ∣ℤ q → ConditionAt l p g q ↔ SquareModulo l (negℤ (p *ℤ g))
-  condition-at-q d = (
-    λ h. h .at-q d,
-    λ s. record { at-p = λ h. absurd (not-both (levelled .coprime-qp) d h); at-g = λ h. absurd (not-both (levelled .coprime-gq) h d); at-q = λ _. s },
-  )
-
 -- ---- where it can fail
 
 -- l divides none of the three
@@ -172,22 +132,7 @@ none-fails {p} {g} {q} levelled none l prime = holds-where-passed p g q (false-o
     passed : ¬ (failsAt p g q l ≡ true)
     passed e = not-le-of-lt (least-found (failsAt p g q) (failing-below-limit levelled (fails-at-iff p g q .0 e .1)) e) none
 
-pub least-failing-equals : {p g q : ℤ} {l : ℕ} → Levelled p g q → LeastFailing p g q l → leastFailing p g q ≡ l
-unfolding leastFailing
-least-failing-equals {p} {g} {q} levelled h =
-    least-equals
-    record {
-      at-most = le-of-lt (failing-below-limit levelled (h .fails));
-      holds = λ below. fails-at-iff p g q .1 (h .prime, h .fails);
-      fails-below = λ m smaller. false-of-not-true (λ e. fails-at-iff p g q .0 e .1 (h .none-smaller m smaller (fails-at-iff p g q .0 e .0)));
-    }
-
 -- ---- every number is a square modulo 2
-
-own-square : (r : ℕ) → r < 2 → r * r ≡ r
-own-square zero h = refl
-own-square (suc zero) h = refl
-own-square (suc (suc r)) h = absurd (omega arith)
 
 pub square-modulo-two : (m : ℤ) → SquareModulo 2 m
 square-modulo-two m =

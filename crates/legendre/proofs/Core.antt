@@ -9,7 +9,8 @@ use native.Mathlib.Nat.{mul-lt-mul-of-pos-left, mul-assoc, mul-comm, mod-lt, suc
 use native.Mathlib.Decide.{ℕ-discrete, decLe}
 use native.Mathlib.Omega.{arith}
 use lib.IntN.{ℤ, pos, negsuc, negℤ, natAbs, _+ℤ_, _-ℤ_, _*ℤ_}
-use Rattle.whole.proofs.Size.{natAbs-neg}
+use Rattle.whole.proofs.Laws.{equal-of-difference}
+use Rattle.whole.proofs.Size.{natAbs-neg, square-is}
 use Rattle.whole.proofs.Ring.{by-ring, reify}
 use Rattle.whole.proofs.Combination.{combine, _⊞_, _⊠_}
 use Rattle.number.specs.Divides.{_∣ℤ_}
@@ -17,7 +18,6 @@ use Rattle.number.specs.Square.{rootOf}
 use Rattle.number.proofs.Square.{root-is, square-≤}
 use Rattle.number.proofs.Congruence.{congruent-of-same}
 use Rattle.legendre.specs.Equation.{form, Solvable}
-use Rattle.legendre.proofs.Sizes.{square-of-size}
 use Rattle.legendre.proofs.Box.{threeDigits, three-digits-below, SameDigits, same-digits, TwoTriples, two-triples, more-triples}
 use Rattle.legendre.proofs.Congruences.{difference, Roots, Congruences, product-divides}
 
@@ -109,7 +109,7 @@ module _ (a b c : ℕ) (h-a : 1 ≤ a) (h-b : 1 ≤ b) (h-c : 1 ≤ c) (x y z : 
       (rw (mul-assoc a b c) (mul-lt-mul-of-pos-left x-small h-a))
       (rw (mul-assoc a b c, mul-comm a (b * c), mul-assoc b c a) (mul-lt-mul-of-pos-left y-small h-b))
       (rw (mul-comm (a * b) c) (mul-lt-mul-of-pos-left z-small h-c))
-      (sym (terms (square-of-size x) (square-of-size y) (square-of-size z)) ∙ h)
+      (sym (terms (square-is x) (square-is y) (square-is z)) ∙ h)
     where
       terms : {u v w : ℤ} → x *ℤ x ≡ u → y *ℤ y ≡ v → z *ℤ z ≡ w → difference (pos a) (pos b) (pos c) x y z ≡ pos a *ℤ u +ℤ pos b *ℤ v -ℤ pos c *ℤ w
       terms h-u h-v h-w = ap₂ _-ℤ_ (ap₂ _+ℤ_ (ap (λ (n : ℤ). pos a *ℤ n) h-u) (ap (λ (n : ℤ). pos b *ℤ n) h-v)) (ap (λ (n : ℤ). pos c *ℤ n) h-w)
@@ -137,15 +137,12 @@ module _ (a b c : ℕ) (h-a : 1 ≤ a) (h-b : 1 ≤ b) (h-c : 1 ≤ c) (x y z : 
         w = z *ℤ z +ℤ pos a *ℤ pos b;
         solution = record {
           equation = solves-at-one (pos a) (pos b) (pos c) x y z (multiple .quotient) (multiple .multiple) e;
-          not-all-zero = λ zeros. positive (ap natAbs (ap (λ (n : ℤ). n +ℤ pos (a * b)) (sym (square-of-size z)) ∙ zeros .2));
+          not-all-zero = λ zeros. positive (ap natAbs (ap (λ (n : ℤ). n +ℤ pos (a * b)) (sym (square-is z)) ∙ zeros .2));
         };
       }
 
 equal : (m n : ℕ) → pos m -ℤ pos n ≡ pos 0 → m ≡ n
-equal m n h = ap natAbs (across (pos m) (pos n) h)
-  where
-    across : (x y : ℤ) → x -ℤ y ≡ pos 0 → x ≡ y
-    across x y h = combine h (by-ring (x ∷ y ∷ []) (search reify depth 64 fits 9999) tt)
+equal m n h = ap natAbs (equal-of-difference (pos m) (pos n) h)
 
 -- ---- one remainder
 

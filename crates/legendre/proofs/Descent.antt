@@ -1,23 +1,28 @@
 -- The descent for aX² + bY² = cW², c squarefree: a solution with W > 0 can be taken with W² ≤ ab. Divide out the greatest
 -- common divisor of X and Y (its square divides cW², so it divides W), step down while W² > ab. Assumes nothing.
-use mathlib.Core.Path.{_≡_, ap, subst}
+use mathlib.Core.Path.{_≡_, sym, ap, subst, _∙_}
 use mathlib.Core.List.{[], _∷_}
 use mathlib.Core.Logic.{_≢_}
 use Prim.Native.Nat.{ℕ, zero, suc, _*_, _/_, _≤_, _<_, _∣_}
 use native.Mathlib.Nat.{pos-of-dvd-of-pos, div-le-self, le-refl, lt-of-not-le, ne-of-gt}
 use native.Mathlib.Decide.{decLe}
 use native.Mathlib.Omega.{arith}
-use lib.IntN.{ℤ, pos, negsuc, negℤ, natAbs, _+ℤ_, _*ℤ_}
+use lib.IntN.{ℤ, pos, negℤ, natAbs, _+ℤ_, _*ℤ_}
+use Rattle.whole.proofs.Size.{natAbs-neg}
 use Rattle.whole.proofs.Ring.{by-ring, reify}
 use Rattle.whole.proofs.Combination.{combine, _⊞_, _⊠_}
+use Rattle.whole.proofs.Products.{*ℤ-cancel}
+use Rattle.whole.proofs.Cancel.{other-factor-zero}
 use Rattle.number.specs.Divides.{_∣ℤ_}
 use Rattle.number.specs.Gcd.{gcdOf}
 use Rattle.number.specs.Squarefree.{Squarefree}
-use Rattle.number.proofs.Divides.{sizes-divide, divides-by-sizes, quotient-times}
-use Rattle.number.proofs.Gcd.{gcd-divides-left, gcd-divides-right}
+use Rattle.number.proofs.Divides.{sizes-divide, quotient-times}
+use Rattle.number.proofs.Gcd.{gcd-∣ℤ-left, gcd-∣ℤ-right}
 use Rattle.number.proofs.Bezout.{Combines, bezout-ℤ}
-use Rattle.number.proofs.Squarefree.{root-divides-root}
-use Rattle.legendre.proofs.Sizes.{zero-product, cancel-factor}
+use Rattle.number.proofs.Squarefree.{squarefree-same-size}
+use Rattle.legendre.specs.Equation.{form}
+use Rattle.legendre.proofs.Patterns.{form-turned}
+use Rattle.legendre.proofs.CommonFactor.{third-divided}
 use Rattle.legendre.proofs.DescentStep.{Point, PrimitivePoint, Smaller, step}
 
 -- ---- without common factor
@@ -29,16 +34,6 @@ module _ (p g c k w : ℤ) (s : Point p g (negℤ c) w) (x-multiple : k ∣ℤ s
   abbrev y₁ : ℤ
   y₁ = y-multiple .quotient
 
-  square-divides : (k *ℤ k) ∣ℤ (c *ℤ (w *ℤ w))
-  square-divides =
-      record {
-        quotient = p *ℤ (x₁ *ℤ x₁) +ℤ g *ℤ (y₁ *ℤ y₁);
-        multiple =
-            combine
-            (negsuc 0 ⊠ s .equation ⊞ p *ℤ (s .x +ℤ x₁ *ℤ k) ⊠ x-multiple .multiple ⊞ g *ℤ (s .y +ℤ y₁ *ℤ k) ⊠ y-multiple .multiple)
-            (by-ring (p ∷ g ∷ c ∷ k ∷ w ∷ s .x ∷ s .y ∷ x₁ ∷ y₁ ∷ []) (search reify depth 64 fits 9999) tt);
-      }
-
   divided : (w₁ : ℤ) → k ≢ pos 0 → w ≡ w₁ *ℤ k → Combines (s .x) (s .y) k → PrimitivePoint p g (negℤ c) w₁
   divided w₁ k≢0 w-multiple m =
       record {
@@ -46,7 +41,7 @@ module _ (p g c k w : ℤ) (s : Point p g (negℤ c) w) (x-multiple : k ∣ℤ s
           x = x₁;
           y = y₁;
           equation =
-              zero-product k _ k≢0 (zero-product k _ k≢0
+              other-factor-zero k≢0 (other-factor-zero k≢0
               (combine
               (pos 1 ⊠ s .equation ⊞ negℤ (p *ℤ (s .x +ℤ x₁ *ℤ k)) ⊠ x-multiple .multiple
               ⊞ negℤ (g *ℤ (s .y +ℤ y₁ *ℤ k)) ⊠ y-multiple .multiple ⊞ c *ℤ (w +ℤ w₁ *ℤ k) ⊠ w-multiple)
@@ -56,7 +51,7 @@ module _ (p g c k w : ℤ) (s : Point p g (negℤ c) w) (x-multiple : k ∣ℤ s
           left = m .left;
           right = m .right;
           combination =
-              cancel-factor k k≢0
+              *ℤ-cancel k k≢0
               (combine (pos 1 ⊠ m .combination ⊞ negℤ (m .left) ⊠ x-multiple .multiple ⊞ negℤ (m .right) ⊠ y-multiple .multiple)
               (by-ring (k ∷ s .x ∷ s .y ∷ x₁ ∷ y₁ ∷ m .left ∷ m .right ∷ []) (search reify depth 64 fits 9999) tt));
         };
@@ -85,13 +80,18 @@ reduced p g c w free w>0 s =
     k = gcdOf (natAbs (s .x)) (natAbs (s .y))
 
     x-multiple : pos k ∣ℤ s .x
-    x-multiple = divides-by-sizes (pos k) (s .x) (gcd-divides-left (natAbs (s .x)) (natAbs (s .y)))
+    x-multiple = gcd-∣ℤ-left (s .x) (s .y)
 
     y-multiple : pos k ∣ℤ s .y
-    y-multiple = divides-by-sizes (pos k) (s .y) (gcd-divides-right (natAbs (s .x)) (natAbs (s .y)))
+    y-multiple = gcd-∣ℤ-right (s .x) (s .y)
+
+    turned : form (negℤ (pos c)) p g (pos w) (s .x) (s .y) ≡ pos 0
+    turned = form-turned g (negℤ (pos c)) p (s .y) (pos w) (s .x) ∙ form-turned p g (negℤ (pos c)) (s .x) (s .y) (pos w) ∙ s .equation
 
     k-divides : k ∣ w
-    k-divides = root-divides-root k w free (sizes-divide (square-divides p g (pos c) (pos k) (pos w) s x-multiple y-multiple))
+    k-divides =
+        sizes-divide
+        (third-divided (negℤ (pos c)) p g (pos w) (s .x) (s .y) (pos k) (squarefree-same-size (sym (natAbs-neg (pos c))) free) turned x-multiple y-multiple)
 
     w-multiple : w ≡ w / k * k
     w-multiple = quotient-times k k-divides

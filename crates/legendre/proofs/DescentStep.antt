@@ -9,9 +9,9 @@ use native.Mathlib.Omega.{arith}
 use lib.IntN.{ℤ, pos, negsuc, negℤ, natAbs, _+ℤ_, _-ℤ_, _*ℤ_}
 use Rattle.whole.proofs.Ring.{by-ring, reify}
 use Rattle.whole.proofs.Combination.{combine, _⊞_, _⊠_}
+use Rattle.whole.proofs.Size.{square-is}
 use Rattle.number.proofs.Bezout.{Combines}
 use Rattle.legendre.specs.Equation.{form}
-use Rattle.legendre.proofs.Sizes.{square-of-size}
 use Rattle.legendre.proofs.Nearest.{Choice, choose}
 
 -- X and Y that solve the equation with W
@@ -120,7 +120,7 @@ step a b q w a>0 b>0 w>0 large s =
     c = choose w (K s) (M s) w>0
 
     size-equation : pos 2 *ℤ (pos w *ℤ W s c) ≡ pos (natAbs (c .B) * natAbs (c .B) + a * b)
-    size-equation = next-size s c ∙ ap (λ (n : ℤ). n +ℤ pos (a * b)) (square-of-size (c .B))
+    size-equation = next-size s c ∙ ap (λ (n : ℤ). n +ℤ pos (a * b)) (square-is (c .B))
 
     from-size : Less w (W s c) → Smaller (pos a) (pos b) q w
     from-size l =

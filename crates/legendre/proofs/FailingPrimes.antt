@@ -3,7 +3,7 @@
 -- what is left, that is 1 or a prime. Assumes nothing.
 use mathlib.Core.Path.{_≡_, sym, ap, subst, _∙_}
 use mathlib.Core.Logic.{_⊎_, inl, inr, ⊎-elim, _↔_, _≢_}
-use mathlib.Core.Bool.{Bool, true, false, _&&_, not, and-eq-true-iff}
+use mathlib.Core.Bool.{true, false, _&&_, not, and-eq-true-iff}
 use Prim.Native.Nat.{ℕ, suc, _+_, _*_, _/_, _%_, _^_, _∣_, _≤_, _<_}
 use native.Mathlib.Nat.{le-refl, le-antisymm, eq-or-lt-of-le, mul-one, mul-le-mul, le-of-dvd, pos-of-dvd-of-pos, dvd-refl, dvd-trans, dvd-of-mod-eq-zero, mod-eq-zero-of-dvd}
 use native.Mathlib.Omega.{arith}
@@ -15,9 +15,9 @@ use Rattle.number.specs.Prime.{Prime, isPrime}
 use Rattle.number.specs.Residue.{isSquareModulo}
 use Rattle.number.proofs.Least.{not-true-of-false, false-of-not-true, true-or-false}
 use Rattle.number.proofs.Divides.{divides-iff, times-quotient, divides-of-multiple}
-use Rattle.number.proofs.Prime.{isPrime-iff, prime-not-one, prime-divides-product-ℕ}
+use Rattle.number.proofs.Prime.{isPrime-iff, one-or-more, prime-not-one, prime-divides-product-ℕ}
 use Rattle.number.proofs.Square.{order-of-squares}
-use Rattle.number.proofs.TrialDivision.{NoDivisorBelow}
+use Rattle.number.proofs.TrialDivision.{NoDivisorBelow, at-least, fewer-divisors}
 use Rattle.legendre.specs.Search.{leastBelow, fails}
 use Rattle.legendre.specs.declared.least.Least.the-variants.{At, Nothing}
 use Rattle.legendre.proofs.Search.{Bounded, finds-equals}
@@ -29,12 +29,9 @@ pub record Fails (a : ℕ) (n : ℤ) (l : ℕ) : Type 0 where
   pub no-square : isSquareModulo l n ≡ false
   pub prime : Prime l
 
-not-of-false : {b : Bool} → b ≡ false → not b ≡ true
-not-of-false e = rw e
-
 pub fails-iff : (a : ℕ) (n : ℤ) (l : ℕ) → (fails a n l ≡ true) ↔ Fails a n l
 unfolding fails
-fails-iff a n l = (told, λ f. outer .1 (inner .1 (divides-iff l .1 (f .divisor), not-of-false (f .no-square)), isPrime-iff .1 (f .prime)))
+fails-iff a n l = (told, λ f. outer .1 (inner .1 (divides-iff l .1 (f .divisor), ap not (f .no-square)), isPrime-iff .1 (f .prime)))
   where
     inner : (divides l a && not (isSquareModulo l n) ≡ true) ↔ ((divides l a ≡ true) × (not (isSquareModulo l n) ≡ true))
     inner = and-eq-true-iff (divides l a) (not (isSquareModulo l n))
@@ -79,12 +76,6 @@ module _ {size : ℕ} {number : ℤ} {rest divisor : ℕ} (t : Trial size number
   pub rest-at-most : rest ≤ size
   rest-at-most = le-of-dvd size-positive (t .part)
 
-  at-least : (k : ℕ) → 2 ≤ k → k ∣ rest → divisor ≤ k
-  at-least k two h = not-below (λ below. t .tried .none k two below h)
-    where
-      not-below : (k < divisor → ⊥) → divisor ≤ k
-      not-below f = omega arith
-
   -- a prime of what is left, below its other primes, that fails
   first-failing : (l : ℕ) → Prime l → l ∣ rest → ((k : ℕ) → Prime k → k ∣ rest → l ≤ k) → isSquareModulo l number ≡ false → At l ≡ leastBelow (fails size number) (suc size)
   first-failing l prime h first no-square =
@@ -109,14 +100,14 @@ module _ {size : ℕ} {number : ℤ} {rest divisor : ℕ} (t : Trial size number
     pub divisor-prime : Prime divisor
     divisor-prime = record {
       at-least-two = t .from-two;
-      only-divisors = λ d h. ⊎-elim (λ one. inl (sym one)) (λ two. inr (le-antisymm (le-of-dvd divisor-positive h) (at-least d two (dvd-trans d h divides-rest)))) (eq-or-lt-of-le (pos-of-dvd-of-pos h divisor-positive));
+      only-divisors = λ d h. ⊎-elim inl (λ two. inr (le-antisymm (le-of-dvd divisor-positive h) (at-least d (t .tried) two (dvd-trans d h divides-rest)))) (one-or-more divisor-positive h);
     }
       where
         divisor-positive : 0 < divisor
         divisor-positive = omega arith
 
     pub divisor-fails : isSquareModulo divisor number ≡ false → At divisor ≡ leastBelow (fails size number) (suc size)
-    divisor-fails = first-failing divisor divisor-prime divides-rest (λ k p h. at-least k (p .at-least-two) h)
+    divisor-fails = first-failing divisor divisor-prime divides-rest (λ k p h. at-least k (t .tried) (p .at-least-two) h)
 
     pub trial-taken : isSquareModulo divisor number ≡ true → Trial size number (rest / divisor) divisor
     trial-taken holds = record {
@@ -124,7 +115,7 @@ module _ {size : ℕ} {number : ℤ} {rest divisor : ℕ} (t : Trial size number
       part = dvd-trans (rest / divisor) quotient-divides (t .part);
       from-two = t .from-two;
       divisor-bound = t .divisor-bound;
-      tried = record { none = λ k two below h. t .tried .none k two below (dvd-trans k h quotient-divides) };
+      tried = fewer-divisors quotient-divides (t .tried);
       passed = λ l p h. ⊎-elim (λ d. of-divided l p (prime-divides-product-ℕ divisor (rest / divisor) p (subst (λ (n : ℕ). l ∣ n) product d))) inr (t .passed l p h);
     }
       where
@@ -172,15 +163,15 @@ module _ {size : ℕ} {number : ℤ} {rest divisor : ℕ} (t : Trial size number
     pub rest-prime : Prime rest
     rest-prime = record {
       at-least-two = omega (arith, t .positive);
-      only-divisors = λ d h. ⊎-elim (λ one. inl (sym one)) (λ two. inr (all d two h)) (eq-or-lt-of-le (pos-of-dvd-of-pos h (t .positive)));
+      only-divisors = λ d h. ⊎-elim inl (λ two. inr (all d two h)) (one-or-more (t .positive) h);
     }
       where
         all : (d : ℕ) → 2 ≤ d → d ∣ rest → d ≡ rest
         all d two h =
             ⊎-elim
-            (λ one. sym (product ∙ ap (λ (n : ℕ). d * n) (sym one) ∙ mul-one d))
-            (λ more. absurd (omega (arith, product, mul-le-mul (at-least d two h) (at-least (rest / d) more cofactor))))
-            (eq-or-lt-of-le (pos-of-dvd-of-pos cofactor (t .positive)))
+            (λ one. sym (product ∙ ap (λ (n : ℕ). d * n) one ∙ mul-one d))
+            (λ more. absurd (omega (arith, product, mul-le-mul (at-least d (t .tried) two h) (at-least (rest / d) (t .tried) more cofactor))))
+            (one-or-more (t .positive) cofactor)
           where
             product : rest ≡ d * (rest / d)
             product = times-quotient d h

@@ -7,16 +7,16 @@ use mathlib.Core.Bool.{true, false, false≢true, true≢false}
 use Prim.Native.Nat.{ℕ, zero, suc, _+_, _*_, _/_, _%_, _≤_, _<_}
 use native.Mathlib.Nat.{mul-div-cancel-left, mod-eq-zero-of-dvd, dvd-of-mod-eq-zero, dvd-mul-right}
 use native.Mathlib.Omega.{arith}
-use borrow.Author.Tests.{lt-ltb, le-ltb, ltb-true, eqb-true}
+use borrow.Author.Tests.{lt-ltb, le-ltb, ltb-true}
 use lib.IntN.{ℤ, pos, negsuc, negℤ, natAbs, pos-ne-negsuc, _+ℤ_, _*ℤ_}
-use Rattle.whole.proofs.Size.{natAbs-neg, natAbs-*, natAbs-positive}
+use Rattle.whole.proofs.Size.{natAbs-positive}
 use Rattle.number.specs.Square.{rootOf, isSquare}
 use Rattle.number.proofs.Least.{not-true-of-false}
 use Rattle.number.proofs.Divides.{times-quotient}
-use Rattle.number.proofs.Square.{square-law, root-of-square}
+use Rattle.number.proofs.Square.{root-squared, square-law, root-of-square}
 use Rattle.legendre.specs.Equation.{BoxSolution}
 use Rattle.legendre.specs.Search.{sameSign}
-use Rattle.legendre.proofs.Choice.{equation-iff}
+use Rattle.legendre.proofs.Choice.{equation-iff, size-of-terms}
 
 -- ---- signs
 
@@ -46,20 +46,12 @@ opposite-of-sizes (negsuc a) (negsuc b) n e h = absurd (true≢false e)
 
 -- ---- the tests
 
-root-squared : (n : ℕ) {y : ℕ} → isSquare n ≡ true → y ≡ rootOf n → y * y ≡ n
-unfolding isSquare
-root-squared n e y-is = ap (λ (r : ℕ). r * r) y-is ∙ eqb-true (rootOf n * rootOf n) n e
-
 -- pX² + qW²
 abbrev pub terms : ℤ → ℤ → ℕ → ℕ → ℤ
 terms p q w x = p *ℤ pos (x * x) +ℤ q *ℤ pos (w * w)
 
--- what is left for gY²
-left-for : (p g q : ℤ) (w x : ℕ) {y : ℕ} → BoxSolution p g q x y w → g *ℤ pos (y * y) ≡ negℤ (terms p q w x)
-left-for p g q w x {y} b = equation-iff p g q (pos x) (pos y) (pos w) .0 (b .solution .equation)
-
 pub none-same-sign : (p g q : ℤ) (w x : ℕ) → sameSign (terms p q w x) g ≡ true → (y : ℕ) → ¬ BoxSolution p g q x y w
-none-same-sign p g q w x e y b = same-sign-clash (terms p q w x) g (y * y) e (left-for p g q w x b)
+none-same-sign p g q w x e y b = same-sign-clash (terms p q w x) g (y * y) e (equation-iff p g q (pos x) (pos y) (pos w) .0 (b .solution .equation))
 
 -- the sizes that are divided
 pub record Division (p g q : ℤ) (w x size divisor : ℕ) : Type 0 where
@@ -73,8 +65,7 @@ module _ {p g q : ℤ} {w x size divisor : ℕ} (d : Division p g q w x size div
 
   product : {y : ℕ} → BoxSolution p g q x y w → size ≡ divisor * (y * y)
   product {y} b =
-      d .size-is ∙ sym (natAbs-neg (terms p q w x)) ∙ ap natAbs (sym (left-for p g q w x b)) ∙ natAbs-* g (pos (y * y))
-      ∙ ap (λ (n : ℕ). n * (y * y)) (sym (d .divisor-is))
+      d .size-is ∙ size-of-terms y (b .solution) ∙ ap (λ (n : ℕ). n * (y * y)) (sym (d .divisor-is))
 
   square-is : {y : ℕ} → BoxSolution p g q x y w → size / divisor ≡ y * y
   square-is {y} b = ap (λ (n : ℕ). n / divisor) (product b) ∙ mul-div-cancel-left (y * y) divisor-positive

@@ -8,13 +8,13 @@ use native.Mathlib.Omega.{arith}
 use lib.IntN.{ℤ, pos, negℤ, natAbs, _+ℤ_, _*ℤ_}
 use Rattle.whole.proofs.Ring.{by-ring, reify}
 use Rattle.whole.proofs.Combination.{combine, _⊠_}
-use Rattle.whole.proofs.Size.{natAbs-neg, natAbs-*}
+use Rattle.whole.proofs.Size.{natAbs-neg, natAbs-*, natAbs-zero}
 use Rattle.number.proofs.Squarefree.{squarefree-same-size}
 use Rattle.legendre.specs.Equation.{Levelled, form, Solvable, SolvableInBox}
 use Rattle.legendre.specs.Theorems.{NoneBySign, Holzer}
-use Rattle.legendre.proofs.Sizes.{zero-of-size, zero-square-term, form-of-sizes}
-use Rattle.legendre.proofs.Patterns.{Kept, by-pattern, levelled-turned, levelled-negated, solvable-turned, in-box-turned, in-box-negated}
-use Rattle.legendre.proofs.Sign.{noneBySign, negated-solvable}
+use Rattle.legendre.proofs.Sizes.{zero-square-term, form-of-sizes}
+use Rattle.legendre.proofs.Patterns.{Kept, by-pattern, levelled-turned, levelled-negated, solvable-turned, negated-solvable, in-box-turned, in-box-negated}
+use Rattle.legendre.proofs.Sign.{noneBySign}
 use Rattle.legendre.proofs.DescentStep.{Point}
 use Rattle.legendre.proofs.Descent.{Bounded, descent}
 
@@ -72,7 +72,7 @@ module _ (a b c : ℕ) (a>0 : 1 ≤ a) (b>0 : 1 ≤ b) where
       all-zero e = (
         zero-square-term a (s .x) a>0 (omega (arith, sizes, right-zero e)),
         zero-square-term b (s .y) b>0 (omega (arith, sizes, right-zero e)),
-        zero-of-size (s .w) e,
+        natAbs-zero (s .w) e,
       )
 
 -- what turning and negating keep

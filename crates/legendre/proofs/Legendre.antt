@@ -4,7 +4,7 @@ use mathlib.Core.Path.{_≡_, refl, ap, subst, _∙_}
 use mathlib.Core.List.{[], _∷_}
 use Prim.Native.Nat.{ℕ, _≤_}
 use lib.IntN.{ℤ, pos, negℤ, natAbs, _-ℤ_, _*ℤ_, *ℤ-comm}
-use Rattle.whole.proofs.Size.{natAbs-neg}
+use Rattle.whole.proofs.Size.{natAbs-neg, square-is}
 use Rattle.whole.proofs.Ring.{by-ring, reify}
 use Rattle.number.specs.Divides.{_∣ℤ_}
 use Rattle.number.specs.Prime.{Prime}
@@ -15,7 +15,6 @@ use Rattle.number.proofs.Gcd.{coprime-same-sizes}
 use Rattle.number.proofs.Squarefree.{squarefree-same-size}
 use Rattle.legendre.specs.Equation.{Levelled, Solvable, ConditionAt}
 use Rattle.legendre.specs.Theorems.{Legendre}
-use Rattle.legendre.proofs.Sizes.{square-of-size}
 use Rattle.legendre.proofs.Core.{solvable-by-roots}
 use Rattle.legendre.proofs.Necessity.{condition-of-solution}
 use Rattle.legendre.proofs.Patterns.{Kept, by-pattern, levelled-turned, solvable-turned, condition-turned, levelled-negated, solvable-negated, condition-negated}
@@ -25,7 +24,7 @@ abbrev size-of-root : {m : ℕ} {n : ℤ} → SquareModulo m n → ℕ
 size-of-root s = natAbs (s .root)
 
 size-is-root : {m : ℕ} {n : ℤ} (k : ℤ) → n ≡ k → (s : SquareModulo m n) → pos m ∣ℤ (pos (size-of-root s) *ℤ pos (size-of-root s) -ℤ k)
-size-is-root {m} {n} k e s = subst (λ (d : ℤ). pos m ∣ℤ d) (ap (λ (x : ℤ). x -ℤ n) (square-of-size (s .root)) ∙ ap (λ (x : ℤ). pos (size-of-root s) *ℤ pos (size-of-root s) -ℤ x) e) (s .is-root)
+size-is-root {m} {n} k e s = subst (λ (d : ℤ). pos m ∣ℤ d) (ap (λ (x : ℤ). x -ℤ n) (square-is (s .root)) ∙ ap (λ (x : ℤ). pos (size-of-root s) *ℤ pos (size-of-root s) -ℤ x) e) (s .is-root)
 
 -- signs move in and out of a product
 minus-times-minus : (x y : ℤ) → negℤ (x *ℤ negℤ y) ≡ x *ℤ y

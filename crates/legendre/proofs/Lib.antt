@@ -1,4 +1,6 @@
+pub mod Tests
 pub mod Patterns
+pub mod CommonFactor
 pub mod Sizes
 pub mod Sign
 pub mod Nearest

@@ -1,8 +1,8 @@
 -- Choosing a number by parity and by size: for whole K, M and w > 0 some Z, f, B have M = 2f + Z², K = B + Z·w and |B| ≤ w.
 -- Z must have M's parity, and such numbers are 2 apart, so one of the multiples Z·w is within w of K. Assumes nothing.
-use mathlib.Core.Path.{_≡_, refl, sym, ap, _∙_}
+use mathlib.Core.Path.{_≡_, sym, ap, _∙_}
 use mathlib.Core.List.{[], _∷_}
-use Prim.Native.Nat.{ℕ, zero, suc, _+_, _*_, _-_, _/_, _%_, _≤_, _<_}
+use Prim.Native.Nat.{ℕ, suc, _+_, _*_, _-_, _/_, _%_, _≤_, _<_}
 use native.Mathlib.Nat.{mod-lt, div-add-mod}
 use native.Mathlib.Decide.{decLe}
 use native.Mathlib.Omega.{arith}
@@ -10,6 +10,7 @@ use lib.IntN.{ℤ, pos, negsuc, negℤ, natAbs, _+ℤ_, _-ℤ_, _*ℤ_, +ℤ-neg
 use Rattle.whole.proofs.Ring.{by-ring, reify}
 use Rattle.whole.proofs.Combination.{combine, _⊞_, _⊠_}
 use Rattle.whole.proofs.Size.{natAbs-neg}
+use Rattle.number.proofs.Square.{own-square}
 
 -- m as twice a number and a rest of 0 or 1
 record Halved (m : ℤ) : Type 0 where
@@ -29,12 +30,7 @@ halved-negated m h =
 
 halved-natural : (n : ℕ) → Halved (pos n)
 halved-natural n =
-    record { half = pos (n / 2); rest = pos (n % 2); is-twice = ap pos (omega arith); rest-is-bit = ap pos (bit (n % 2) (omega arith)) }
-  where
-    bit : (r : ℕ) → r < 2 → r * r ≡ r
-    bit zero h = refl
-    bit (suc zero) h = refl
-    bit (suc (suc r)) h = omega arith
+    record { half = pos (n / 2); rest = pos (n % 2); is-twice = ap pos (omega arith); rest-is-bit = ap pos (own-square (n % 2) (omega arith)) }
 
 halved : (m : ℤ) → Halved m
 halved (pos n) = halved-natural n

@@ -1,10 +1,10 @@
 -- Necessity: of a solution of a levelled equation and a prime l ∣ p, −gq is a square modulo l. Divided by h = gcd(Y, W), which divides
 -- X too as p is squarefree, Y and W have no common factor; so l does not divide W, and with Wv ≡ 1 (gYv)² ≡ −gq. The other two
 -- coefficients go the same way, with the triple turned. Assumes nothing.
-use mathlib.Core.Path.{_≡_, refl, sym, ap, ap₂, subst, subst₂, subst₃, _∙_}
+use mathlib.Core.Path.{_≡_, sym, ap, ap₂, subst₃, _∙_}
 use mathlib.Core.Logic.{⊎-elim}
 use mathlib.Core.List.{[], _∷_}
-use Prim.Native.Nat.{ℕ, _*_, _∣_, _<_}
+use Prim.Native.Nat.{ℕ, _*_, _<_}
 use native.Mathlib.Nat.{eq-zero-or-pos, mul-comm, mul-pos}
 use lib.IntN.{ℤ, pos, negℤ, natAbs, _+ℤ_, _-ℤ_, _*ℤ_, *ℤ-zero}
 use Rattle.whole.proofs.Size.{natAbs-*}
@@ -15,12 +15,12 @@ use Rattle.number.specs.Gcd.{Coprime, gcdOf}
 use Rattle.number.specs.Prime.{Prime}
 use Rattle.number.specs.Residue.{SquareModulo}
 use Rattle.number.specs.Squarefree.{Squarefree}
-use Rattle.number.proofs.Divides.{∣ℤ-of-sum, ∣ℤ-times-left, ∣ℤ-cancel, divides-by-sizes, sizes-divide}
-use Rattle.number.proofs.Gcd.{gcd-divides-left, gcd-divides-right, cofactors-coprime, coprime-common-divisor}
+use Rattle.number.proofs.Divides.{∣ℤ-of-sum, ∣ℤ-times-left, ∣ℤ-cancel, sizes-divide}
+use Rattle.number.proofs.Gcd.{gcd-∣ℤ-left, gcd-∣ℤ-right, cofactors-coprime, coprime-common-divisor}
 use Rattle.number.proofs.Bezout.{Combines, coprime-combines}
 use Rattle.number.proofs.Prime.{prime-coprime, prime-not-one, prime-divides-product, prime-divides-square}
-use Rattle.number.proofs.Squarefree.{squarefree-same-size, root-divides-root}
 use Rattle.legendre.specs.Equation.{Levelled, form, Solvable, ConditionAt}
+use Rattle.legendre.proofs.CommonFactor.{third-divided}
 use Rattle.legendre.proofs.Patterns.{solvable-turned, square-commuted}
 
 -- ---- Y and W without common factor
@@ -55,13 +55,6 @@ module _ {l : ℕ} (prime : Prime l) (g q y w : ℤ) (not-g : ¬ (pos l ∣ℤ g
 
 -- ---- the common factor h of X, Y and W divided out
 
--- h² ∣ pX²
-square-divides : (p g q x y w h : ℤ) → form p g q x (y *ℤ h) (w *ℤ h) ≡ pos 0 → (h *ℤ h) ∣ℤ (p *ℤ (x *ℤ x))
-square-divides p g q x y w h e = record {
-  quotient = negℤ (g *ℤ (y *ℤ y) +ℤ q *ℤ (w *ℤ w));
-  multiple = combine e (by-ring (p ∷ g ∷ q ∷ x ∷ y ∷ w ∷ h ∷ []) (search reify depth 64 fits 9999) tt);
-}
-
 -- h²l ∣ h²(gY² + qW²)
 scaled-divides : (p g q x y w h k l : ℤ) → form p g q (x *ℤ h) (y *ℤ h) (w *ℤ h) ≡ pos 0 → p ≡ k *ℤ l → (h *ℤ h *ℤ l) ∣ℤ (h *ℤ h *ℤ (g *ℤ (y *ℤ y) +ℤ q *ℤ (w *ℤ w)))
 scaled-divides p g q x y w h k l e d = record {
@@ -80,23 +73,18 @@ module _ {l : ℕ} (prime : Prime l) (p g q : ℤ) (free : Squarefree p) (coprim
       size : (n : ℤ) → h * natAbs n ≡ natAbs (n *ℤ pos h)
       size n = mul-comm h (natAbs n) ∙ sym (natAbs-* n (pos h))
 
-  common-divides : (x y w : ℤ) (h : ℕ) → form p g q x (y *ℤ pos h) (w *ℤ pos h) ≡ pos 0 → pos h ∣ℤ x
-  common-divides x y w h equation = divides-by-sizes (pos h) x (root-divides-root h (natAbs x) (squarefree-same-size {b = pos (natAbs p)} refl free)
-      (subst (λ (n : ℕ). h * h ∣ n) (natAbs-* p (x *ℤ x) ∙ ap (λ (n : ℕ). natAbs p * n) (natAbs-* x x))
-      (sizes-divide (square-divides p g q x y w (pos h) equation))))
-
   -- the condition at p
   square-at : Solvable p g q → SquareModulo l (negℤ (g *ℤ q))
-  square-at s = with-third (common-divides (s .x) (h-y .quotient) (h-w .quotient) h (subst₂ (λ y w. form p g q (s .x) y w ≡ pos 0) (h-y .multiple) (h-w .multiple) (s .solution .equation)))
+  square-at s = with-third (third-divided p g q (s .x) (s .y) (s .w) (pos h) free (s .solution .equation) h-y h-w)
     where
       h : ℕ
       h = gcdOf (natAbs (s .y)) (natAbs (s .w))
 
       h-y : pos h ∣ℤ s .y
-      h-y = divides-by-sizes (pos h) (s .y) (gcd-divides-left (natAbs (s .y)) (natAbs (s .w)))
+      h-y = gcd-∣ℤ-left (s .y) (s .w)
 
       h-w : pos h ∣ℤ s .w
-      h-w = divides-by-sizes (pos h) (s .w) (gcd-divides-right (natAbs (s .y)) (natAbs (s .w)))
+      h-w = gcd-∣ℤ-right (s .y) (s .w)
 
       nothing : {n : ℤ} → h ≡ 0 → pos h ∣ℤ n → n ≡ pos 0
       nothing zero-h d = d .multiple ∙ ap (λ (m : ℕ). d .quotient *ℤ pos m) zero-h ∙ *ℤ-zero (d .quotient)

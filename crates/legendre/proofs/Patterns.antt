@@ -3,10 +3,10 @@
 use mathlib.Core.Path.{_≡_, refl, sym, ap, subst, _∙_}
 use mathlib.Core.Logic.{inl, inr, _≢_}
 use mathlib.Core.List.{[], _∷_}
-use Prim.Native.Nat.{ℕ, zero, suc, _*_, _≤_}
+use Prim.Native.Nat.{ℕ, zero, suc, _≤_}
 use native.Mathlib.Omega.{arith}
 use lib.Dec.{lt→ltb}
-use lib.IntN.{ℤ, pos, negsuc, negℤ, natAbs, _*ℤ_, *ℤ-comm, negℤ-negℤ}
+use lib.IntN.{ℤ, pos, negsuc, negℤ, _*ℤ_, *ℤ-comm, negℤ-negℤ}
 use Rattle.whole.proofs.Size.{natAbs-neg}
 use Rattle.whole.proofs.Ring.{by-ring, reify}
 use Rattle.number.specs.Divides.{_∣ℤ_}
@@ -30,7 +30,7 @@ levelled-turned h = record {
   coprime-qp = h .coprime-pg;
 }
 
-form-turned : (p g q x y w : ℤ) → form g q p y w x ≡ form p g q x y w
+pub form-turned : (p g q x y w : ℤ) → form g q p y w x ≡ form p g q x y w
 form-turned p g q x y w = by-ring (p ∷ g ∷ q ∷ x ∷ y ∷ w ∷ []) (search reify depth 64 fits 9999) tt
 
 pub solution-turned : {p g q x y w : ℤ} → Solution p g q x y w → Solution g q p y w x
@@ -50,8 +50,8 @@ in-box-turned {p} {g} {q} h = record {
   w = h .x;
   solution = record {
     solution = solution-turned (s .solution);
-    x-within = subst (λ (m : ℤ). h .y * h .y ≤ natAbs m) (*ℤ-comm p q) (s .y-within);
-    y-within = subst (λ (m : ℤ). h .w * h .w ≤ natAbs m) (*ℤ-comm p g) (s .w-within);
+    x-within = rw (*ℤ-comm q p) (s .y-within);
+    y-within = rw (*ℤ-comm g p) (s .w-within);
     w-within = s .x-within;
   };
 }
@@ -88,7 +88,7 @@ levelled-negated h = record {
   coprime-qp = coprime-negated (h .coprime-qp);
 }
 
-pub form-negated : (p g q x y w : ℤ) → form (negℤ p) (negℤ g) (negℤ q) x y w ≡ negℤ (form p g q x y w)
+form-negated : (p g q x y w : ℤ) → form (negℤ p) (negℤ g) (negℤ q) x y w ≡ negℤ (form p g q x y w)
 form-negated p g q x y w = by-ring (p ∷ g ∷ q ∷ x ∷ y ∷ w ∷ []) (search reify depth 64 fits 9999) tt
 
 -- the equation with all three negated has the same solutions
@@ -101,6 +101,18 @@ solution-negated {p} {g} {q} {x} {y} {w} h = record {
 pub solvable-negated : {p g q : ℤ} → Solvable (negℤ p) (negℤ g) (negℤ q) → Solvable p g q
 solvable-negated h = record { x = h .x; y = h .y; w = h .w; solution = solution-negated (h .solution) }
 
+pub negated-solvable : {p g q : ℤ} → Solvable p g q → Solvable (negℤ p) (negℤ g) (negℤ q)
+negated-solvable {p} {g} {q} s =
+    record {
+      x = s .x;
+      y = s .y;
+      w = s .w;
+      solution = record {
+        equation = form-negated p g q (s .x) (s .y) (s .w) ∙ ap negℤ (s .solution .equation);
+        not-all-zero = s .solution .not-all-zero;
+      };
+    }
+
 -- minus the product of the other two is as it was
 product-negated : (a b : ℤ) → negℤ a *ℤ negℤ b ≡ a *ℤ b
 product-negated a b = by-ring (a ∷ b ∷ []) (search reify depth 64 fits 9999) tt
@@ -112,17 +124,14 @@ in-box-negated {p} {g} {q} h = record {
   w = h .w;
   solution = record {
     solution = solution-negated (s .solution);
-    x-within = same g q (h .x) (s .x-within);
-    y-within = same p q (h .y) (s .y-within);
-    w-within = same p g (h .w) (s .w-within);
+    x-within = rw (← product-negated g q) (s .x-within);
+    y-within = rw (← product-negated p q) (s .y-within);
+    w-within = rw (← product-negated p g) (s .w-within);
   };
 }
   where
     s : BoxSolution (negℤ p) (negℤ g) (negℤ q) (h .x) (h .y) (h .w)
     s = h .solution
-
-    same : (a b : ℤ) (n : ℕ) → n * n ≤ natAbs (negℤ a *ℤ negℤ b) → n * n ≤ natAbs (a *ℤ b)
-    same a b n = subst (λ (m : ℤ). n * n ≤ natAbs m) (product-negated a b)
 
 divides-negated : {a b : ℤ} → a ∣ℤ negℤ b → a ∣ℤ b
 divides-negated {a} {b} h = subst (λ (n : ℤ). a ∣ℤ n) (negℤ-negℤ b) (∣ℤ-negation h)

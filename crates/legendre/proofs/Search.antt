@@ -1,7 +1,7 @@
 -- What a search finds, told by the test alone: the least number at which it holds, or that it holds nowhere. Two searches' smaller find
 -- is what a search for either finds. Assumes nothing.
-use mathlib.Core.Path.{_≡_, refl, sym, _∙_}
-use mathlib.Core.Logic.{_⊎_, inl, inr, ⊎-elim}
+use mathlib.Core.Path.{_≡_, sym, _∙_}
+use mathlib.Core.Logic.{inl, inr, ⊎-elim}
 use mathlib.Core.Bool.{Bool, true, false, _||_, cond}
 use Prim.Native.Nat.{ℕ, min, _≤_, _<_}
 use native.Mathlib.Nat.{eq-or-lt-of-le, min-eq-left, min-eq-right, le-of-lt}
@@ -13,6 +13,7 @@ use Rattle.number.proofs.Least.{least-equals, least-none, least-holds, fails-be
 use Rattle.legendre.specs.Search.{leastBelow, smallerOf}
 use Rattle.legendre.specs.declared.least.Least.{Least}
 use Rattle.legendre.specs.declared.least.Least.the-variants.{At, Nothing}
+use Rattle.legendre.proofs.Tests.{either-iff}
 
 -- ---- below a bound
 
@@ -56,36 +57,25 @@ Either s t l = s l || t l
 neither : {a b : Bool} → a ≡ false → b ≡ false → (a || b) ≡ false
 neither e f = rw (e, f)
 
-by-first : {a : Bool} (b : Bool) → a ≡ true → (a || b) ≡ true
-by-first b e = rw e
-
-by-second : (a : Bool) {b : Bool} → b ≡ true → (a || b) ≡ true
-by-second true e = refl
-by-second false e = e
-
 pub finds-smaller : (s t : ℕ → Bool) (a b : Least) → Finds s a → Finds t b → Finds (λ l. s l || t l) (smallerOf a b)
 finds-smaller s t Nothing Nothing f h = λ i. neither (f i) (h i)
-finds-smaller s t Nothing (At m) f h = (by-second (s m) (h .0), λ i below. neither (f i) (h .1 i below))
-finds-smaller s t (At l) Nothing f h = (by-first (t l) (f .0), λ i below. neither (f .1 i below) (h i))
+finds-smaller s t Nothing (At m) f h = (either-iff (s m) (t m) .1 (inr (h .0)), λ i below. neither (f i) (h .1 i below))
+finds-smaller s t (At l) Nothing f h = (either-iff (s l) (t l) .1 (inl (f .0)), λ i below. neither (f .1 i below) (h i))
 finds-smaller s t (At l) (At m) f h = ⊎-elim first second (true-or-false (ltb l m))
   where
     first : ltb l m ≡ true → Finds (Either s t) (At (min l m))
     first e =
         let less : l < m = ltb-true l m e in
-        rw (min-eq-left (le-of-lt less)) (by-first (t l) (f .0), λ i below. neither (f .1 i below) (h .1 i (omega arith)))
+        rw (min-eq-left (le-of-lt less)) (either-iff (s l) (t l) .1 (inl (f .0)), λ i below. neither (f .1 i below) (h .1 i (omega arith)))
 
     second : ltb l m ≡ false → Finds (Either s t) (At (min l m))
     second e =
         let more : m ≤ l = ltb-false l m e in
-        rw (min-eq-right more) (by-second (s m) (h .0), λ i below. neither (f .1 i (omega arith)) (h .1 i below))
-
-either-true : (a b : Bool) → (a || b) ≡ true → (a ≡ true) ⊎ (b ≡ true)
-either-true true b e = inl refl
-either-true false b e = inr e
+        rw (min-eq-right more) (either-iff (s m) (t m) .1 (inr (h .0)), λ i below. neither (f .1 i (omega arith)) (h .1 i below))
 
 pub bounded-either : {s t : ℕ → Bool} {m n k : ℕ} → Bounded s m → Bounded t n → m ≤ k → n ≤ k → Bounded (λ l. s l || t l) k
 bounded-either {s} {t} first second m≤k n≤k = record {
-  below = λ l e. ⊎-elim (λ h. omega (arith, first .below l h)) (λ h. omega (arith, second .below l h)) (either-true (s l) (t l) e);
+  below = λ l e. ⊎-elim (λ h. omega (arith, first .below l h)) (λ h. omega (arith, second .below l h)) (either-iff (s l) (t l) .0 e);
 }
 
 pub bounded-same : {s t : ℕ → Bool} {n : ℕ} → ((l : ℕ) → s l ≡ t l) → Bounded s n → Bounded t n

@@ -9,7 +9,7 @@ use lib.Dec.{ltb→lt}
 use lib.IntN.{ℤ, pos, negsuc, negℤ, natAbs}
 use Rattle.legendre.specs.Equation.{Solvable, Positive, Negative}
 use Rattle.legendre.specs.Theorems.{NoneBySign}
-use Rattle.legendre.proofs.Patterns.{form-negated}
+use Rattle.legendre.proofs.Patterns.{negated-solvable}
 use Rattle.legendre.proofs.Sizes.{zero-square-term, form-of-sizes}
 
 -- n is a positive number
@@ -41,18 +41,6 @@ none-by-sizes : {p g q : ℤ} → Size p → Size g → Size q → ¬ Solvable p
 none-by-sizes a b c =
     subst₃ (λ (p g q : ℤ). ¬ Solvable p g q) (a .is-size) (b .is-size) (c .is-size)
     (none-by-size (a .size) (b .size) (c .size) (a .positive) (b .positive) (c .positive))
-
-pub negated-solvable : {p g q : ℤ} → Solvable p g q → Solvable (negℤ p) (negℤ g) (negℤ q)
-negated-solvable {p} {g} {q} s =
-    record {
-      x = s .x;
-      y = s .y;
-      w = s .w;
-      solution = record {
-        equation = form-negated p g q (s .x) (s .y) (s .w) ∙ ap negℤ (s .solution .equation);
-        not-all-zero = s .solution .not-all-zero;
-      };
-    }
 
 pub noneBySign : NoneBySign
 unfolding NoneBySign

@@ -1,4 +1,5 @@
--- The walk of the box: what a row has passed and found, and what the rows have. Assumes nothing.
+-- The walk of the box: what a row has passed and found, and what the rows have. Each step adds one place to those that were passed, and
+-- a row ends where X² leaves the box. Assumes nothing.
 use mathlib.Core.Path.{_≡_, subst}
 use mathlib.Core.Logic.{⊎-elim}
 use Prim.Native.Nat.{ℕ, _+_, _*_, _<_}

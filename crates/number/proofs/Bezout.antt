@@ -101,9 +101,6 @@ coprimes-divide {a} {b} {c} p h k =
 pub euclid-lemma-ℕ : (a b c : ℕ) → gcdOf a b ≡ 1 → a ∣ b * c → a ∣ c
 euclid-lemma-ℕ a b c e h = sizes-divide (euclid-lemma (pos c) (coprime-naturals a b e) (pos-divides a h))
 
-pub coprimes-divide-ℕ : (a b : ℕ) {c : ℕ} → gcdOf a b ≡ 1 → a ∣ c → b ∣ c → a * b ∣ c
-coprimes-divide-ℕ a b e h k = sizes-divide (coprimes-divide (coprime-naturals a b e) (pos-divides a h) (pos-divides b k))
-
 -- coprime to both factors, coprime to the product
 product-combination : (u v s t a b c : ℤ) →
     u *ℤ s *ℤ (a *ℤ b) +ℤ (u *ℤ a *ℤ t +ℤ v *ℤ s *ℤ b +ℤ v *ℤ t *ℤ c) *ℤ c ≡ (u *ℤ a +ℤ v *ℤ c) *ℤ (s *ℤ b +ℤ t *ℤ c)

@@ -1,5 +1,5 @@
--- Congruent whole numbers: their difference is a multiple of the modulus. Sums and products of congruent numbers are congruent, a
--- number is congruent to its remainder, and natural numbers are congruent if they leave the same remainder. Assumes nothing.
+-- Congruent whole numbers: their difference is a multiple of the modulus. Products of congruent numbers are congruent, a number is
+-- congruent to its remainder, and natural numbers are congruent exactly if they leave the same remainder. Assumes nothing.
 use mathlib.Core.Path.{_≡_, sym, ap, _∙_, subst}
 use mathlib.Core.List.{[], _∷_}
 use Prim.Native.Nat.{ℕ, suc, _+_, _-_, _*_, _/_, _%_, _<_}
@@ -10,7 +10,7 @@ use Rattle.whole.proofs.Ring.{by-ring, reify}
 use Rattle.whole.proofs.Combination.{combine, _⊞_, _⊠_}
 use Rattle.number.specs.Divides.{_∣ℤ_}
 use Rattle.number.specs.Remainder.{remainderOf}
-use Rattle.number.proofs.Divides.{∣ℤ-zero, ∣ℤ-trans, ∣ℤ-sum, ∣ℤ-negation, ∣ℤ-times-left, ∣ℤ-times-right}
+use Rattle.number.proofs.Divides.{∣ℤ-zero, ∣ℤ-sum, ∣ℤ-negation, ∣ℤ-times-left, ∣ℤ-times-right}
 
 pub record Congruent (n a b : ℤ) : Type 0 where
   pub difference : n ∣ℤ (a -ℤ b)
@@ -32,28 +32,10 @@ pub congruent-trans : {n a b c : ℤ} → Congruent n a b → Congruent n b c �
 congruent-trans {n} {a} {b} {c} h k =
     by-difference ((a -ℤ b) +ℤ (b -ℤ c)) (by-ring (a ∷ b ∷ c ∷ []) (search reify depth 64 fits 9999) tt) (∣ℤ-sum (h .difference) (k .difference))
 
-pub congruent-sum : {n a b c d : ℤ} → Congruent n a b → Congruent n c d → Congruent n (a +ℤ c) (b +ℤ d)
-congruent-sum {n} {a} {b} {c} {d} h k =
-    by-difference ((a -ℤ b) +ℤ (c -ℤ d)) (by-ring (a ∷ b ∷ c ∷ d ∷ []) (search reify depth 64 fits 9999) tt) (∣ℤ-sum (h .difference) (k .difference))
-
-pub congruent-negation : {n a b : ℤ} → Congruent n a b → Congruent n (negℤ a) (negℤ b)
-congruent-negation {n} {a} {b} h =
-    by-difference (negℤ (a -ℤ b)) (by-ring (a ∷ b ∷ []) (search reify depth 64 fits 9999) tt) (∣ℤ-negation (h .difference))
-
-pub congruent-difference : {n a b c d : ℤ} → Congruent n a b → Congruent n c d → Congruent n (a -ℤ c) (b -ℤ d)
-congruent-difference h k = congruent-sum h (congruent-negation k)
-
 pub congruent-product : {n a b c d : ℤ} → Congruent n a b → Congruent n c d → Congruent n (a *ℤ c) (b *ℤ d)
 congruent-product {n} {a} {b} {c} {d} h k =
     by-difference ((a -ℤ b) *ℤ c +ℤ b *ℤ (c -ℤ d)) (by-ring (a ∷ b ∷ c ∷ d ∷ []) (search reify depth 64 fits 9999) tt)
     (∣ℤ-sum (∣ℤ-times-right c (h .difference)) (∣ℤ-times-left b (k .difference)))
-
--- modulo a divisor of the modulus
-pub congruent-divisor : {d n a b : ℤ} → d ∣ℤ n → Congruent n a b → Congruent d a b
-congruent-divisor h k = record { difference = ∣ℤ-trans h (k .difference) }
-
-pub congruent-zero : {n a : ℤ} → n ∣ℤ a → Congruent n a (pos 0)
-congruent-zero {n} {a} h = by-difference a (by-ring (a ∷ []) (search reify depth 64 fits 9999) tt) h
 
 -- ---- remainders
 from-quotients : (n a b r p q : ℤ) → a ≡ r +ℤ n *ℤ p → b ≡ r +ℤ n *ℤ q → Congruent n a b

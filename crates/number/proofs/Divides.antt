@@ -2,25 +2,20 @@
 -- a multiple a quotient. Assumes nothing.
 use mathlib.Core.Path.{_≡_, refl, sym, ap, _∙_, subst}
 use mathlib.Core.Logic.{_↔_}
-use mathlib.Core.Bool.{true, false}
+use mathlib.Core.Bool.{true}
 use Prim.Native.Nat.{ℕ, _*_, _/_, _%_, _≤_, _<_, _∣_}
-use native.Mathlib.Nat.{dvd-of-mod-eq-zero, mod-eq-zero-of-dvd, mul-div-cancel', div-mul-cancel, dvd-mul-left, dvd-of-mul-dvd-mul-left, le-of-dvd, dvd-antisymm}
+use native.Mathlib.Nat.{dvd-of-mod-eq-zero, mod-eq-zero-of-dvd, mul-div-cancel', div-mul-cancel, dvd-mul-left, dvd-of-mul-dvd-mul-left, le-of-dvd}
 use native.Mathlib.Decide.{decDvd, map-dec}
 use borrow.Author.Tests.{eqb-true, eq-eqb}
 use lib.IntN.{ℤ, pos, negsuc, natAbs, negℤ, negℤ-negℤ, _+ℤ_, _-ℤ_, _*ℤ_, *ℤ-comm, zero-*ℤ, +ℤ-negℤ-cancel}
-use Rattle.whole.proofs.Laws.{one-*ℤ, *ℤ-assoc, *ℤ-distribʳ, negℤ-*ℤ, *ℤ-negℤ, *ℤ-swap-middle}
+use Rattle.whole.proofs.Laws.{one-*ℤ, *ℤ-assoc, *ℤ-distribʳ, negℤ-*ℤ, *ℤ-negℤ}
 use Rattle.whole.proofs.Size.{natAbs-*}
 use Rattle.number.specs.Divides.{_∣ℤ_, divides}
-use Rattle.number.proofs.Least.{false-of-not-true, not-true-of-false}
 
 -- ---- the test, on ℕ
 pub divides-iff : (d : ℕ) {n : ℕ} → (divides d n ≡ true) ↔ (d ∣ n)
 unfolding divides
 divides-iff d {n} = (λ e. dvd-of-mod-eq-zero d (eqb-true (n % d) 0 e), λ h. eq-eqb (n % d) 0 (mod-eq-zero-of-dvd d h))
-
-pub divides-false-iff : (d : ℕ) {n : ℕ} → (divides d n ≡ false) ↔ ¬ (d ∣ n)
-divides-false-iff d {n} =
-    (λ e h. not-true-of-false e (divides-iff d .1 h), λ none. false-of-not-true (λ e. none (divides-iff d {n = n} .0 e)))
 
 -- the quotient
 pub times-quotient : (d : ℕ) {n : ℕ} → d ∣ n → n ≡ d * (n / d)
@@ -74,15 +69,6 @@ pub ∣ℤ-times-left : {a b : ℤ} (c : ℤ) → a ∣ℤ b → a ∣ℤ (c *�
 pub ∣ℤ-times-right : {a b : ℤ} (c : ℤ) → a ∣ℤ b → a ∣ℤ (b *ℤ c)
 ∣ℤ-times-right {a} {b} c h = subst (λ x. a ∣ℤ x) (*ℤ-comm c b) (∣ℤ-times-left c h)
 
-pub ∣ℤ-product : {a b c d : ℤ} → a ∣ℤ b → c ∣ℤ d → (a *ℤ c) ∣ℤ (b *ℤ d)
-∣ℤ-product {a} {b} {c} {d} h k =
-    record {
-      quotient = h .quotient *ℤ k .quotient;
-      multiple =
-          ap (λ x. x *ℤ d) (h .multiple) ∙ ap (λ x. h .quotient *ℤ a *ℤ x) (k .multiple)
-          ∙ *ℤ-swap-middle (h .quotient) a (k .quotient) c;
-    }
-
 -- the divisor's sign does not count
 pub negation-∣ℤ : {a b : ℤ} → a ∣ℤ b → negℤ a ∣ℤ b
 negation-∣ℤ {a} h =
@@ -115,17 +101,8 @@ pos-divides m {n} h = record { quotient = pos (n / m); multiple = ap pos (quotie
 pub divides-by-sizes : (a b : ℤ) → natAbs a ∣ natAbs b → a ∣ℤ b
 divides-by-sizes a b h = ∣ℤ-trans (natAbs-∣ℤ a) (∣ℤ-trans (pos-divides (natAbs a) h) (∣ℤ-natAbs b))
 
-pub ∣ℤ-iff : {a b : ℤ} → (a ∣ℤ b) ↔ (natAbs a ∣ natAbs b)
-∣ℤ-iff {a} {b} = (sizes-divide, divides-by-sizes a b)
-
-pub pos-∣ℤ-iff : {m n : ℕ} → (pos m ∣ℤ pos n) ↔ (m ∣ n)
-pos-∣ℤ-iff {m} {n} = (sizes-divide, pos-divides m)
-
 pub divisor-size-bound : {a b : ℤ} → 0 < natAbs b → a ∣ℤ b → natAbs a ≤ natAbs b
 divisor-size-bound {a} {b} b≢0 h = le-of-dvd b≢0 (sizes-divide h)
-
-pub same-size : {a b : ℤ} → a ∣ℤ b → b ∣ℤ a → natAbs a ≡ natAbs b
-same-size h k = dvd-antisymm (sizes-divide h) (sizes-divide k)
 
 pub ∣ℤ-cancel : (c : ℤ) {a b : ℤ} → 0 < natAbs c → (c *ℤ a) ∣ℤ (c *ℤ b) → a ∣ℤ b
 ∣ℤ-cancel c {a} {b} c≢0 h =

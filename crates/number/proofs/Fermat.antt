@@ -3,7 +3,7 @@
 use mathlib.Core.Path.{_≡_, sym, ap, _∙_, subst}
 use mathlib.Core.Logic.{_⊎_, inl, inr}
 use Prim.Native.Nat.{ℕ, zero, suc, _+_, _-_, _*_, _^_, _/_, _%_, _<_, _∣_}
-use native.Mathlib.Nat.{pow-suc, mul-zero, mul-one, suc-mod, not-suc-le-zero, mod-eq-of-lt, dvd-zero, one-le-pow, zero-lt-suc, pow-succ', dvd-of-mod-eq-zero, mod-eq-zero-of-dvd, dvd-mul-right-of-dvd}
+use native.Mathlib.Nat.{pow-suc, mul-zero, mul-one, suc-mod, not-suc-le-zero, mod-eq-of-lt, pow-succ', dvd-of-mod-eq-zero, mod-eq-zero-of-dvd, dvd-mul-right-of-dvd}
 use native.Mathlib.Decide.{ℕ-discrete}
 use native.Mathlib.Omega.{arith}
 use lib.IntN.{pos}
@@ -25,22 +25,11 @@ fermat-power {l = suc n} prime (suc x) =
     ∙ sym (suc-mod x (suc n))
 
 -- x cancels
-fermat-suc : {n : ℕ} → Prime (suc n) → {x : ℕ} → (suc n ∣ x → ⊥) → x ^ n % suc n ≡ 1
-fermat-suc {n} prime {x = zero} away = absurd (away (dvd-zero (suc n)))
-fermat-suc {n} prime {x = suc x} away =
-    cancel-factor prime (suc x) away (one-le-pow n (suc x) (zero-lt-suc x)) by-power ∙ mod-eq-of-lt (prime .at-least-two)
+fermat : {n x : ℕ} → Prime (suc n) → (suc n ∣ x → ⊥) → x ^ n % suc n ≡ 1
+fermat {n} {x} prime away = cancel-factor prime x (x ^ n) 1 away by-power ∙ mod-eq-of-lt (prime .at-least-two)
   where
-    by-power : suc x * suc x ^ n % suc n ≡ suc x * 1 % suc n
-    by-power =
-        ap (λ (p : ℕ). p % suc n) (sym (pow-succ' (suc x) n)) ∙ fermat-power prime (suc x)
-        ∙ ap (λ (p : ℕ). p % suc n) (sym (mul-one (suc x)))
-
-pub fermat : {l : ℕ} → Prime l → {x : ℕ} → (l ∣ x → ⊥) → x ^ (l - 1) % l ≡ 1
-fermat {l = zero} prime away = absurd (not-suc-le-zero (prime .at-least-two))
-fermat {l = suc n} prime {x} away = ap (λ (k : ℕ). x ^ k % suc n) one-less ∙ fermat-suc prime away
-  where
-    one-less : suc n - 1 ≡ n
-    one-less = omega arith
+    by-power : x * x ^ n % suc n ≡ x * 1 % suc n
+    by-power = ap (λ (p : ℕ). p % suc n) (sym (pow-succ' x n)) ∙ fermat-power prime x ∙ ap (λ (p : ℕ). p % suc n) (sym (mul-one x))
 
 -- a square's power to h = (l − 1)/2 leaves 1
 module _ (h r a : ℕ) where
@@ -49,7 +38,7 @@ module _ (h r a : ℕ) where
 
   euler-odd : Euler (suc (h + h))
   euler-odd prime root away =
-      sym (same-power (suc (h + h)) (r * r) a h root) ∙ ap (λ (p : ℕ). p % suc (h + h)) (power-of-square r h) ∙ fermat-suc prime away-from-root
+      sym (same-power (suc (h + h)) (r * r) a h root) ∙ ap (λ (p : ℕ). p % suc (h + h)) (power-of-square r h) ∙ fermat prime away-from-root
     where
       away-from-root : suc (h + h) ∣ r → ⊥
       away-from-root d =

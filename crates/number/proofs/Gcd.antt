@@ -9,7 +9,7 @@ use lib.Signed.{quotZ}
 use Rattle.whole.proofs.Size.{natAbs-quot}
 use Rattle.number.specs.Divides.{_∣ℤ_}
 use Rattle.number.specs.Gcd.{euclid, gcdOf, Coprime}
-use Rattle.number.proofs.Divides.{times-quotient, sizes-divide}
+use Rattle.number.proofs.Divides.{times-quotient, divides-by-sizes}
 
 pub record IsGcd (a b g : ℕ) : Type 0 where
   pub divides-left : g ∣ a
@@ -72,9 +72,6 @@ zero-gcd b = gcd-symmetric 0 b ∙ gcd-zero b
 pub gcd-positive-left : (a b : ℕ) → 0 < a → 0 < gcdOf a b
 gcd-positive-left a b = pos-of-dvd-of-pos (gcd-divides-left a b)
 
-pub gcd-positive-right : (a b : ℕ) → 0 < b → 0 < gcdOf a b
-gcd-positive-right a b = pos-of-dvd-of-pos (gcd-divides-right a b)
-
 pub both-zero-of-gcd-zero : {a b : ℕ} → gcdOf a b ≡ 0 → (a ≡ 0) × (b ≡ 0)
 both-zero-of-gcd-zero {a} {b} e =
     (zero-if (gcd-divides-left a b), zero-if (gcd-divides-right a b))
@@ -116,7 +113,14 @@ quotients-coprime a b positive =
     cofactors-coprime (gcdOf a b) (a / gcdOf a b) (b / gcdOf a b) positive
     (ap₂ gcdOf (sym (times-quotient (gcdOf a b) (gcd-divides-left a b))) (sym (times-quotient (gcdOf a b) (gcd-divides-right a b))))
 
--- ---- no common factor, on ℤ
+-- ---- on ℤ
+pub gcd-∣ℤ-left : (a b : ℤ) → pos (gcdOf (natAbs a) (natAbs b)) ∣ℤ a
+gcd-∣ℤ-left a b = divides-by-sizes (pos (gcdOf (natAbs a) (natAbs b))) a (gcd-divides-left (natAbs a) (natAbs b))
+
+pub gcd-∣ℤ-right : (a b : ℤ) → pos (gcdOf (natAbs a) (natAbs b)) ∣ℤ b
+gcd-∣ℤ-right a b = divides-by-sizes (pos (gcdOf (natAbs a) (natAbs b))) b (gcd-divides-right (natAbs a) (natAbs b))
+
+-- ---- no common factor
 pub quotients-are-coprime : (a b : ℤ) (g : ℕ) → 0 < g → gcdOf (natAbs a) (natAbs b) ≡ g → Coprime (quotZ a (pos g)) (quotZ b (pos g))
 quotients-are-coprime a b g positive e =
     record {
@@ -139,10 +143,3 @@ coprime-symmetric {a} {b} p = record { gcd-is-one = gcd-symmetric (natAbs b) (na
 -- only the sizes count
 pub coprime-same-sizes : {a b c d : ℤ} → natAbs a ≡ natAbs c → natAbs b ≡ natAbs d → Coprime a b → Coprime c d
 coprime-same-sizes e f p = record { gcd-is-one = sym (ap₂ gcdOf e f) ∙ p .gcd-is-one }
-
-pub divisors-of-coprimes : {a b c d : ℤ} → c ∣ℤ a → d ∣ℤ b → Coprime a b → Coprime c d
-divisors-of-coprimes {a} {b} {c} {d} h k p =
-    coprime-of-common-divisors λ e l m. coprime-common-divisor p e (dvd-trans e l (sizes-divide h)) (dvd-trans e m (sizes-divide k))
-
-pub coprime-one : (a : ℤ) → Coprime (pos 1) a
-coprime-one a = coprime-of-common-divisors λ d h k. eq-one-of-dvd-one h

@@ -1,6 +1,6 @@
--- The laws of `least` and `greatest`: each is the one number of the search's kind, so whatever else meets the same description is
--- equal to it. By induction on how many numbers the search tries. A test that holds is `test i ≡ true`, one that fails
--- `test i ≡ false`. Assumes nothing.
+-- The laws of `least` and `greatest`: what the number found tells of the tests; and the least is the one number of its kind, so that
+-- whatever else meets the same description is equal to it. By induction on how many numbers the search tries. A test that holds is
+-- `test i ≡ true`, one that fails `test i ≡ false`. Assumes nothing.
 use mathlib.Core.Path.{_≡_, refl, sym, _∙_, subst}
 use mathlib.Core.Logic.{_⊎_, inl, inr, ⊎-elim}
 use mathlib.Core.Bool.{Bool, true, false, true≢false}
@@ -30,7 +30,8 @@ pub true-or-false : (b : Bool) → (b ≡ true) ⊎ (b ≡ false)
 true-or-false true = inl refl
 true-or-false false = inr refl
 
-le-of-not-above : {a b : ℕ} → (b < a → ⊥) → a ≤ b
+-- ---- the order of ℕ, by what is not above
+pub le-of-not-above : {a b : ℕ} → (b < a → ⊥) → a ≤ b
 le-of-not-above h = omega arith
 
 -- ---- the least
@@ -104,9 +105,6 @@ least-is-least test n {i} e = le-of-not-above (λ above. not-true-of-false (fail
 pub least-found : (test : ℕ → Bool) {n i : ℕ} → i < n → test i ≡ true → least test n < n
 least-found test {n} {i} l e = omega (arith, least-is-least test n {i = i} e)
 
-pub least-found-holds : (test : ℕ → Bool) {n i : ℕ} → i < n → test i ≡ true → test (least test n) ≡ true
-least-found-holds test {n} {i} l e = least-holds test n (least-found test l e)
-
 -- not found
 pub least-none : {test : ℕ → Bool} {n : ℕ} → ((i : ℕ) → i < n → test i ≡ false) → least test n ≡ n
 least-none {test} {n} none =
@@ -129,11 +127,6 @@ least-same-test {test} {other} {n} same =
       holds = λ h. same (least other n) h ∙ least-holds other n h;
       fails-below = λ i l. same i (omega arith) ∙ fails-below-least other n i l;
     }
-
--- a larger bound finds what a smaller one found
-pub least-larger-bound : (test : ℕ → Bool) {m n : ℕ} → m ≤ n → least test m < m → least test n ≡ least test m
-least-larger-bound test {m} {n} h found =
-    least-equals record { at-most = omega arith; holds = λ l. least-holds test m found; fails-below = fails-below-least test m }
 
 -- ---- the greatest
 pub record IsGreatest (test : ℕ → Bool) (n r : ℕ) : Type 0 where
@@ -163,15 +156,6 @@ greatest-is test (suc n) = by-test (test (suc n)) refl (greatest-is test n)
     by-test true e f = record { at-most = omega arith; holds = λ h. e; fails-above = λ i h l. absurd (not-le-of-lt h l) }
     by-test false e f = lower f e
 
-pub greatest-unique : {test : ℕ → Bool} {n r s : ℕ} → IsGreatest test n r → IsGreatest test n s → r ≡ s
-greatest-unique {test} {n} p q = le-antisymm (not-above p q) (not-above q p)
-  where
-    not-above : {x y : ℕ} → IsGreatest test n x → IsGreatest test n y → x ≤ y
-    not-above {x} {y} f g = le-of-not-above (λ above. not-true-of-false (g .fails-above x above (f .at-most)) (f .holds (omega arith)))
-
-pub greatest-equals : {test : ℕ → Bool} {n r : ℕ} → IsGreatest test n r → greatest test n ≡ r
-greatest-equals {test} {n} p = greatest-unique (greatest-is test n) p
-
 pub greatest-at-most : (test : ℕ → Bool) (n : ℕ) → greatest test n ≤ n
 greatest-at-most test n = greatest-is test n .at-most
 
@@ -183,14 +167,3 @@ fails-above-greatest test n = greatest-is test n .fails-above
 
 pub greatest-is-greatest : (test : ℕ → Bool) {n i : ℕ} → i ≤ n → test i ≡ true → i ≤ greatest test n
 greatest-is-greatest test {n} {i} l e = le-of-not-above (λ above. not-true-of-false (fails-above-greatest test n i above l) e)
-
--- only the tests from 1 to n count
-pub greatest-same-test : {test other : ℕ → Bool} {n : ℕ} → ((i : ℕ) → 0 < i → i ≤ n → test i ≡ other i) → greatest test n ≡ greatest other n
-greatest-same-test {test} {other} {n} same =
-    let bound : greatest other n ≤ n = greatest-at-most other n in
-    greatest-equals
-    record {
-      at-most = bound;
-      holds = λ h. same (greatest other n) h bound ∙ greatest-holds other n h;
-      fails-above = λ i h l. same i (omega arith) l ∙ fails-above-greatest other n i h l;
-    }

@@ -1,9 +1,8 @@
 -- The least root modulo l of a residue a, from what a search or a candidate shows of remainders of squares: the first r from 0 up
 -- with r² % l = a is the least root; modulo a prime any such r below l gives it; and none up to half of l is none. Assumes nothing.
-use mathlib.Core.Path.{_≡_, refl, sym, ap, ap₂, _∙_}
-use mathlib.Core.Logic.{⊎-elim}
-use mathlib.Core.Bool.{Bool, true, false}
-use Prim.Native.Nat.{ℕ, zero, suc, _+_, _-_, _*_, _/_, _%_, _^_, _<_, _≤_, _∣_, min}
+use mathlib.Core.Path.{_≡_, sym, ap, ap₂, _∙_}
+use mathlib.Core.Bool.{Bool}
+use Prim.Native.Nat.{ℕ, _+_, _-_, _*_, _/_, _%_, _^_, _<_, _≤_, _∣_, min}
 use native.Mathlib.Nat.{mod-eq-of-lt, add-assoc, mod-add-mod, mod-eq-sub-mod, le-of-dvd, le-refl, le-antisymm, add-mul, mul-add}
 use native.Mathlib.Omega.{arith}
 use borrow.Author.Tests.{lt-ltb, le-ltb}
@@ -14,7 +13,8 @@ use Rattle.number.specs.Remainder.{remainderOf}
 use Rattle.number.specs.Residue.{SquareModulo, leastRootOf, isSquareModulo}
 use Rattle.number.specs.Root.{leastIf, leastRoot}
 use Rattle.number.specs.declared.residue.Root.the-variants.{Least, Nothing}
-use Rattle.number.proofs.Least.{true-or-false}
+use Rattle.number.proofs.Least.{le-of-not-above}
+use Rattle.number.proofs.Square.{own-square}
 use Rattle.number.proofs.Congruence.{Congruent, congruent-of-same, same-of-congruent, remainder-congruent}
 use Rattle.number.proofs.Residues.{least-root-is-least, least-root-is-root, least-root-congruent}
 use Rattle.number.proofs.Fermat.{not-square-by-power}
@@ -40,26 +40,6 @@ pub least-root-of-remainder : {l : ℕ} → 0 < l → (m : ℤ) → leastRoot l 
 unfolding leastRoot isSquareModulo
 least-root-of-remainder {l} h m = ap (λ (x : ℕ). leastIf (ltb x l) x) (least-root-congruent (remainder-congruent h m))
 
--- and back
-of-test : (l : ℕ) (m : ℤ) {b : Bool} → isSquareModulo l m ≡ b → leastRoot l m ≡ leastIf b (leastRootOf l m)
-unfolding leastRoot
-of-test l m e = ap (λ (b : Bool). leastIf b (leastRootOf l m)) e
-
-pub least-means : (l : ℕ) (m : ℤ) {r : ℕ} → leastRoot l m ≡ Least r → (isSquareModulo l m ≡ true) × (leastRootOf l m ≡ r)
-least-means l m {r} e = ⊎-elim (λ t. (t, by (of-test l m t))) (λ f. absurd (clash (of-test l m f))) (true-or-false (isSquareModulo l m))
-  where
-    by : leastRoot l m ≡ Least (leastRootOf l m) → leastRootOf l m ≡ r
-    by k = cc
-
-    clash : leastRoot l m ≡ Nothing → ⊥
-    clash k = let z : _≡_ {A = ℕ} 0 1 = cc in omega arith
-
-pub nothing-means : (l : ℕ) (m : ℤ) → leastRoot l m ≡ Nothing → isSquareModulo l m ≡ false
-nothing-means l m e = ⊎-elim (λ t. absurd (clash (of-test l m t))) (λ f. f) (true-or-false (isSquareModulo l m))
-  where
-    clash : leastRoot l m ≡ Least (leastRootOf l m) → ⊥
-    clash k = let z : _≡_ {A = ℕ} 0 1 = cc in omega arith
-
 -- ---- by search
 pub first-root : {l a : ℕ} (r : ℕ) → a < l → r < l → r * r % l ≡ a → ((i : ℕ) → i < r → i * i % l ≡ a → ⊥) → leastRoot l (pos a) ≡ Least r
 first-root {l} {a} r below h root none = least-of (pos a) (le-antisymm at-most at-least) h
@@ -71,10 +51,7 @@ first-root {l} {a} r below h root none = least-of (pos a) (le-antisymm at-most a
     at-most = least-root-is-least (root-of-remainder r below root)
 
     at-least : r ≤ t
-    at-least = not-below (λ k. none t k (remainder-of-root t below (least-root-is-root (omega (arith, at-most)))))
-      where
-        not-below : (t < r → ⊥) → r ≤ t
-        not-below no-less = omega arith
+    at-least = le-of-not-above (λ k. none t k (remainder-of-root t below (least-root-is-root (omega (arith, at-most)))))
 
 pub no-root : {l a : ℕ} → 0 < l → a < l → ((r : ℕ) → r + r ≤ l → r * r % l ≡ a → ⊥) → leastRoot l (pos a) ≡ Nothing
 no-root {l} {a} positive below none = nothing-of (pos a) (none-up-to-half positive (λ r half h. none r half (remainder-of-root r below h)))
@@ -102,15 +79,10 @@ root-of-prime {l} {a} r prime below h root = least-of (pos a) (least-root-of-pri
 -- 0 and 1 are their own roots
 pub own-root : {l : ℕ} (a : ℕ) → Prime l → a < 2 → leastRoot l (pos a) ≡ Least a
 own-root {l} a prime small =
-    root-of-prime a prime below below (ap (λ (x : ℕ). x % l) (square a small) ∙ mod-eq-of-lt below) ∙ ap Least (omega arith)
+    root-of-prime a prime below below (ap (λ (x : ℕ). x % l) (own-square a small) ∙ mod-eq-of-lt below) ∙ ap Least (omega arith)
   where
     below : a < l
     below = omega (arith, prime .at-least-two)
-
-    square : (a : ℕ) → a < 2 → a * a ≡ a
-    square zero h = refl
-    square (suc zero) h = refl
-    square (suc (suc a)) h = omega arith
 
 -- a power to (l − 1)/2 that does not leave 1 refutes a root
 pub refuted : {l a : ℕ} → Prime l → 2 ≤ a → a < l → (a ^ ((l - 1) / 2) % l ≡ 1 → ⊥) → leastRoot l (pos a) ≡ Nothing

@@ -1,30 +1,24 @@
--- Remainders of natural numbers: products, powers and differences by remainders, and cancelling modulo a prime. A number is its
--- remainder and a multiple of the modulus. Assumes nothing.
+-- Remainders of natural numbers: products and powers by remainders, repeated squaring, and cancelling modulo a prime. Numbers leave the
+-- same remainder where they are congruent, and a prime that divides a product divides a factor. Assumes nothing.
 use mathlib.Core.Path.{_≡_, refl, sym, ap, _∙_, subst}
 use mathlib.Core.Logic.{⊎-elim}
-use Prim.Native.Nat.{ℕ, zero, suc, _+_, _-_, _*_, _^_, _/_, _%_, _≤_, _<_, _∣_}
-use native.Mathlib.Nat.{mod-add-div, mod-mod, add-mul, mul-assoc, mul-comm, mul-sub, add-mul-mod-self-left, pow-zero, pow-suc, dvd-mul-right, mul-div-cancel', mod-eq-of-lt, mul-le-mul-left, mul-one, pow-succ', mul-le-mul, lt-of-le-of-lt}
+use mathlib.Core.List.{[], _∷_}
+use Prim.Native.Nat.{ℕ, zero, suc, _+_, _*_, _^_, _/_, _%_, _<_, _∣_}
+use native.Mathlib.Nat.{mod-mod, mul-assoc, pow-zero, pow-suc, mod-eq-of-lt, mul-one, pow-succ', mul-le-mul, lt-of-le-of-lt}
 use native.Mathlib.Omega.{arith}
 use lib.Dec.{lit<}
+use lib.IntN.{ℤ, pos, _-ℤ_, _*ℤ_}
+use Rattle.whole.proofs.Ring.{by-ring, reify}
+use Rattle.number.specs.Divides.{_∣ℤ_}
 use Rattle.number.specs.Prime.{Prime}
-use Rattle.number.proofs.Prime.{prime-divides-product-ℕ}
+use Rattle.number.proofs.Divides.{sizes-divide}
+use Rattle.number.proofs.Prime.{prime-divides-product}
+use Rattle.number.proofs.Congruence.{congruent-product, congruent-of-same, same-of-congruent}
 
 -- ---- products and powers
-pub product-left : (n a b : ℕ) → a % n * b % n ≡ a * b % n
-product-left n a b = sym (ap (λ (x : ℕ). x % n) split ∙ add-mul-mod-self-left (a % n * b) n (a / n * b))
-  where
-    split : a * b ≡ a % n * b + n * (a / n * b)
-    split =
-        ap (λ (x : ℕ). x * b) (sym (mod-add-div a n)) ∙ add-mul (a % n) (n * (a / n)) b
-        ∙ ap (λ (x : ℕ). a % n * b + x) (mul-assoc n (a / n) b)
-
-pub product-right : (n a b : ℕ) → a * (b % n) % n ≡ a * b % n
-product-right n a b = ap (λ (x : ℕ). x % n) (mul-comm a (b % n)) ∙ product-left n b a ∙ ap (λ (x : ℕ). x % n) (mul-comm b a)
-
 pub same-product : (n a b c d : ℕ) → a % n ≡ b % n → c % n ≡ d % n → a * c % n ≡ b * d % n
 same-product n a b c d p q =
-    sym (product-left n a c) ∙ ap (λ (x : ℕ). x * c % n) p ∙ product-left n b c
-    ∙ sym (product-right n b c) ∙ ap (λ (x : ℕ). b * x % n) q ∙ product-right n b d
+    same-of-congruent n (a * c) (b * d) (congruent-product (congruent-of-same n a b p) (congruent-of-same n c d q))
 
 pub same-power : (n a b k : ℕ) → a % n ≡ b % n → a ^ k % n ≡ b ^ k % n
 same-power n a b zero p = ap (λ (x : ℕ). x % n) (pow-zero a ∙ sym (pow-zero b))
@@ -72,26 +66,15 @@ module _ (n r s t k : ℕ) (squared : t ≡ s * s % n) where
 pub power-done : (n r s : ℕ) {k : ℕ} → k ≡ 0 → r < n → r * s ^ k % n ≡ r
 power-done n r s none h = ap (λ (i : ℕ). r * s ^ i % n) none ∙ ap (λ (x : ℕ). x % n) (ap (λ (x : ℕ). r * x) (pow-zero s) ∙ mul-one r) ∙ mod-eq-of-lt h
 
--- ---- differences
-pub divides-difference : (n : ℕ) {a b : ℕ} → b ≤ a → a % n ≡ b % n → n ∣ a - b
-divides-difference n {a} {b} h p =
-    subst (λ (x : ℕ). n ∣ x) (sym difference) (dvd-mul-right n (a / n - b / n))
+-- ---- a factor that the prime does not divide cancels
+pub cancel-factor : {l : ℕ} → Prime l → (r a b : ℕ) → (l ∣ r → ⊥) → r * a % l ≡ r * b % l → a % l ≡ b % l
+cancel-factor {l} prime r a b away p =
+    ⊎-elim (λ d. absurd (away (sizes-divide d))) (λ d. same-of-congruent l a b (record { difference = d }))
+    (prime-divides-product (pos r) (pos a -ℤ pos b) prime
+    (subst (λ (x : ℤ). pos l ∣ℤ x) (out-of-difference (pos r) (pos a) (pos b)) (congruent-of-same l (r * a) (r * b) p .difference)))
   where
-    difference : a - b ≡ n * (a / n - b / n)
-    difference = omega (arith, mod-add-div a n, mod-add-div b n, mul-sub n (a / n) (b / n))
-
-pub same-of-divides : (n : ℕ) {a b : ℕ} → b ≤ a → n ∣ a - b → a % n ≡ b % n
-same-of-divides n {a} {b} h d =
-    ap (λ (x : ℕ). x % n) split ∙ add-mul-mod-self-left b n ((a - b) / n)
-  where
-    split : a ≡ b + n * ((a - b) / n)
-    split = omega (arith, mul-div-cancel' n d)
-
--- a factor that the prime does not divide cancels
-pub cancel-factor : {l : ℕ} → Prime l → (r : ℕ) → (l ∣ r → ⊥) → {a b : ℕ} → b ≤ a → r * a % l ≡ r * b % l → a % l ≡ b % l
-cancel-factor {l} prime r away {a} {b} h p =
-    ⊎-elim (λ d. absurd (away d)) (same-of-divides l h)
-    (prime-divides-product-ℕ r (a - b) prime (subst (λ (x : ℕ). l ∣ x) (sym (mul-sub r a b)) (divides-difference l (mul-le-mul-left r h) p)))
+    out-of-difference : (r a b : ℤ) → r *ℤ a -ℤ r *ℤ b ≡ r *ℤ (a -ℤ b)
+    out-of-difference r a b = by-ring (r ∷ a ∷ b ∷ []) (search reify depth 64 fits 9999) tt
 
 -- ---- residues below 2³²
 pub small-product : {a b : ℕ} → a < 2 ^ 32 → b < 2 ^ 32 → a * b < 2 ^ 64

@@ -6,7 +6,6 @@ use mathlib.Core.Logic.{_⊎_, inl, inr, ⊎-elim, _↔_, _≢_}
 use mathlib.Core.Bool.{true, _&&_, and-eq-true-iff}
 use Prim.Native.Nat.{ℕ, zero, suc, _*_, _≤_, _<_, _∣_}
 use native.Mathlib.Nat.{dvd-refl, dvd-zero, dvd-trans, le-of-dvd, pos-of-dvd-of-pos, eq-or-lt-of-le, le-antisymm}
-use native.Mathlib.Decide.{ℕ-discrete}
 use native.Mathlib.Omega.{arith}
 use borrow.Author.Tests.{leb-true, le-leb, eqb-true, eq-eqb}
 use lib.Dec.{leb, eqb}
@@ -16,8 +15,8 @@ use Rattle.number.specs.Least.{least, firstFrom}
 use Rattle.number.specs.Gcd.{gcdOf, Coprime}
 use Rattle.number.specs.Prime.{Prime, leastDivisor, isPrime}
 use Rattle.number.proofs.Least.{least-at-most, least-holds, least-is-least}
-use Rattle.number.proofs.Divides.{divides-iff, sizes-divide, divides-by-sizes, pos-divides}
-use Rattle.number.proofs.Gcd.{gcd-divides-left, gcd-divides-right, coprime-of-common-divisors}
+use Rattle.number.proofs.Divides.{divides-iff, sizes-divide, pos-divides}
+use Rattle.number.proofs.Gcd.{gcd-divides-left, gcd-∣ℤ-right}
 use Rattle.number.proofs.Bezout.{euclid-lemma}
 
 -- ---- the least divisor
@@ -46,7 +45,7 @@ unfolding leastDivisor
 leastDivisor-is-least {n} {d} h k = least-is-least (λ d. leb 2 d && divides d n) n {i = d} (proper-divisor-iff d .1 (h, k))
 
 -- a divisor of a positive number is 1 or at least 2
-one-or-more : {d n : ℕ} → 0 < n → d ∣ n → (d ≡ 1) ⊎ (2 ≤ d)
+pub one-or-more : {d n : ℕ} → 0 < n → d ∣ n → (d ≡ 1) ⊎ (2 ≤ d)
 one-or-more positive h = ⊎-elim (λ e. inl (sym e)) inr (eq-or-lt-of-le (pos-of-dvd-of-pos h positive))
 
 pub leastDivisor-prime : {n : ℕ} → 2 ≤ n → Prime (leastDivisor n)
@@ -91,7 +90,7 @@ prime-divisor (suc (suc n)) other =
 pub prime-divides-or-coprime : {l : ℕ} → Prime l → (a : ℤ) → (pos l ∣ℤ a) ⊎ Coprime (pos l) a
 prime-divides-or-coprime {l} p a =
     ⊎-elim (λ one. inr record { gcd-is-one = one })
-    (λ e. inl (divides-by-sizes (pos l) a (subst (λ (g : ℕ). g ∣ natAbs a) e (gcd-divides-right l (natAbs a)))))
+    (λ e. inl (subst (λ (g : ℕ). pos g ∣ℤ a) e (gcd-∣ℤ-right (pos l) a)))
     (p .only-divisors (gcdOf l (natAbs a)) (gcd-divides-left l (natAbs a)))
 
 pub prime-coprime : {l : ℕ} {a : ℤ} → Prime l → ¬ (pos l ∣ℤ a) → Coprime (pos l) a
@@ -99,10 +98,6 @@ prime-coprime {l} {a} p not-divides = ⊎-elim (λ h. absurd (not-divides h)) (�
 
 pub prime-not-one : {l : ℕ} → Prime l → l ≢ 1
 prime-not-one p e = omega (arith, p .at-least-two)
-
-pub different-primes-coprime : {l m : ℕ} → Prime l → Prime m → l ≢ m → Coprime (pos l) (pos m)
-different-primes-coprime {l} {m} p q different =
-    prime-coprime p λ h. ⊎-elim (prime-not-one p) different (q .only-divisors l (sizes-divide h))
 
 -- a divided product has a divided factor
 pub prime-divides-product : {l : ℕ} (a b : ℤ) → Prime l → pos l ∣ℤ (a *ℤ b) → (pos l ∣ℤ a) ⊎ (pos l ∣ℤ b)
@@ -114,16 +109,3 @@ prime-divides-product-ℕ {l} a b p h =
 
 pub prime-divides-square : {l : ℕ} (a : ℤ) → Prime l → pos l ∣ℤ (a *ℤ a) → pos l ∣ℤ a
 prime-divides-square a p h = ⊎-elim (λ k. k) (λ k. k) (prime-divides-product a a p h)
-
--- no prime divides both
-pub coprime-of-no-common-prime : {a b : ℤ} → ((l : ℕ) → Prime l → pos l ∣ℤ a → pos l ∣ℤ b → ⊥) → Coprime a b
-coprime-of-no-common-prime {a} {b} none = coprime-of-common-divisors λ d h k. one d h k (ℕ-discrete d 1)
-  where
-    divided : {l : ℕ} (d : ℕ) (c : ℤ) → l ∣ d → d ∣ natAbs c → pos l ∣ℤ c
-    divided {l} d c h k = divides-by-sizes (pos l) c (dvd-trans l h k)
-
-    one : (d : ℕ) → d ∣ natAbs a → d ∣ natAbs b → Dec (d ≡ 1) → d ≡ 1
-    one d h k (yes e) = e
-    one d h k (no other) =
-        let (l, p, m) = prime-divisor d other in
-        absurd (none l p (divided d a m h) (divided d b m k))

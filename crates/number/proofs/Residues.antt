@@ -1,19 +1,18 @@
--- Squares modulo n: the search from 0 up decides them, since a root's remainder is a root below n. Being a square depends only on the
--- number modulo n, and a square modulo n is one modulo each divisor of n. Assumes nothing.
+-- Squares modulo n: the search from 0 up decides them, since a root's remainder is a root below n. What the search
+-- gives depends only on the number modulo n. Assumes nothing.
 use mathlib.Core.Path.{_≡_, refl, sym}
 use mathlib.Core.Logic.{_↔_}
 use mathlib.Core.Bool.{Bool, true, false}
-use Prim.Native.Nat.{ℕ, _<_, _≤_, _∣_}
+use Prim.Native.Nat.{ℕ, _<_, _≤_}
 use native.Mathlib.Nat.{lt-of-le-of-lt}
-use native.Mathlib.Omega.{arith}
 use borrow.Author.Tests.{ltb-true, lt-ltb}
 use lib.IntN.{ℤ, pos, natAbs, _*ℤ_, _-ℤ_}
 use Rattle.number.specs.Divides.{divides}
 use Rattle.number.specs.Remainder.{remainderOf}
 use Rattle.number.specs.Residue.{SquareModulo, leastRootOf, isSquareModulo}
-use Rattle.number.proofs.Least.{least-at-most, least-is-least, least-holds, least-same-test, false-of-not-true, not-true-of-false}
-use Rattle.number.proofs.Divides.{divides-sizes-iff, pos-divides, one-∣ℤ}
-use Rattle.number.proofs.Congruence.{Congruent, congruent-sym, congruent-trans, congruent-product, congruent-divisor, remainder-below, remainder-congruent}
+use Rattle.number.proofs.Least.{least-at-most, least-is-least, least-holds, least-same-test}
+use Rattle.number.proofs.Divides.{divides-sizes-iff, one-∣ℤ}
+use Rattle.number.proofs.Congruence.{Congruent, congruent-sym, congruent-trans, congruent-product, remainder-below, remainder-congruent}
 
 -- the test of the search, for a number r
 abbrev rootTest : ℕ → ℤ → ℕ → Bool
@@ -38,12 +37,6 @@ pub least-root-is-least : {n r : ℕ} {m : ℤ} → Congruent (pos n) (pos r *�
 unfolding leastRootOf
 least-root-is-least {n} {r} {m} h = least-is-least (rootTest n m) n (passes n m r h)
 
-pub no-smaller-root : {n r : ℕ} {m : ℤ} → r < leastRootOf n m → ¬ Congruent (pos n) (pos r *ℤ pos r) m
-no-smaller-root {n} {r} {m} h root = clash (least-root-is-least root)
-  where
-    clash : leastRootOf n m ≤ r → ⊥
-    clash k = omega arith
-
 -- ---- squares modulo n
 pub square-root-congruent : {n : ℕ} {m : ℤ} → (s : SquareModulo n m) → Congruent (pos n) (s .root *ℤ s .root) m
 square-root-congruent s = record { difference = s .is-root }
@@ -66,16 +59,6 @@ pub is-square-modulo-iff : {n : ℕ} {m : ℤ} → 0 < n → (isSquareModulo n m
 unfolding isSquareModulo
 is-square-modulo-iff {n} {m} h =
     (λ e. square-of-found (ltb-true (leastRootOf n m) n e), λ s. lt-ltb (leastRootOf n m) n (least-root-found h s))
-
-pub not-square-modulo-iff : {n : ℕ} {m : ℤ} → 0 < n → (isSquareModulo n m ≡ false) ↔ ¬ SquareModulo n m
-not-square-modulo-iff {n} {m} h =
-    (λ e s. not-true-of-false e (is-square-modulo-iff h .1 s), λ none. false-of-not-true (λ e. none (is-square-modulo-iff h .0 e)))
-
-pub square-congruent : {n : ℕ} {m k : ℤ} → Congruent (pos n) m k → SquareModulo n m → SquareModulo n k
-square-congruent h s = square-by-root (s .root) (congruent-trans (square-root-congruent s) h)
-
-pub square-modulo-divisor : {d n : ℕ} {m : ℤ} → d ∣ n → SquareModulo n m → SquareModulo d m
-square-modulo-divisor {d} h s = square-by-root (s .root) (congruent-divisor (pos-divides d h) (square-root-congruent s))
 
 pub square-modulo-one : (m : ℤ) → SquareModulo 1 m
 square-modulo-one m = record { root = pos 0; is-root = one-∣ℤ (pos 0 *ℤ pos 0 -ℤ m) }

@@ -14,6 +14,7 @@ use Rattle.number.specs.Least.{firstFrom, least, greatest}
 use Rattle.number.specs.Square.{rootOf}
 use Rattle.number.specs.Squarefree.{squarePart, freePart}
 use Rattle.number.specs.Split.{splitOf}
+use Rattle.number.proofs.Least.{le-of-not-above}
 use Rattle.number.proofs.SquarefreeSplit.{square-part-squared-at-most}
 
 pub zero-of-bits : {n : ℤ} → SFits w64 n → ofZ w64 n ≡ 0 → n ≡ pos 0
@@ -26,12 +27,9 @@ split-of-zero e = sym (ap splitOf e)
 -- 2⁶³ lies between the squares of 3037000499 and 3037000500
 square-below : (s : ℕ) → s * s ≤ 2 ^ 63 → s * s < 2 ^ 63
 square-below s h =
-    let root-at-most : s ≤ 3037000499 = not-above (λ above. too-large (mul-le-mul above above)) in
+    let root-at-most : s ≤ 3037000499 = le-of-not-above (λ above. too-large (mul-le-mul above above)) in
     omega (arith, mul-le-mul root-at-most root-at-most)
   where
-    not-above : (3037000500 ≤ s → ⊥) → s ≤ 3037000499
-    not-above f = omega arith
-
     too-large : 3037000500 * 3037000500 ≤ s * s → ⊥
     too-large l = omega arith
 

@@ -1,10 +1,11 @@
 -- The integer root of n is the one r with r² ≤ n < (r + 1)², and n is a square where that r has r² = n: squares keep the order, so
 -- that two such r are equal. Assumes nothing.
-use mathlib.Core.Path.{_≡_, sym, ap, _∙_, subst}
+use mathlib.Core.Path.{_≡_, refl, sym, ap, _∙_, subst}
 use mathlib.Core.Bool.{true}
 use mathlib.Core.Logic.{_↔_, ⊎-elim}
 use Prim.Native.Nat.{ℕ, zero, suc, _*_, _≤_, _<_, zero-le}
 use native.Mathlib.Nat.{mul-le-mul, mul-le-mul-left, mul-lt-mul-of-pos-right, lt-of-le-of-lt, lt-of-not-le, not-le-of-lt, le-antisymm, eq-or-lt-of-le, le-mul-of-pos-right, le-of-suc-le-suc, zero-lt-suc, le-refl, le-of-lt, lt-suc-self}
+use native.Mathlib.Omega.{arith}
 use lib.Dec.{ltb}
 use borrow.Author.Tests.{ltb-true, ltb-false, eqb-true, eq-eqb}
 use Rattle.number.specs.Square.{rootOf, isSquare}
@@ -22,6 +23,12 @@ order-of-squares r s h = lt-of-not-le (λ back. not-le-of-lt h (square-≤ back)
 
 pub at-most-by-squares : {n r s : ℕ} → r * r ≤ n → n < suc s * suc s → r ≤ s
 at-most-by-squares {r = r} {s} low high = le-of-suc-le-suc (order-of-squares r (suc s) (lt-of-le-of-lt low high))
+
+-- 0 and 1 are their own squares
+pub own-square : (r : ℕ) → r < 2 → r * r ≡ r
+own-square zero h = refl
+own-square (suc zero) h = refl
+own-square (suc (suc r)) h = absurd (omega arith)
 
 -- ---- the root
 pub record IsRoot (n r : ℕ) : Type 0 where
@@ -60,7 +67,11 @@ pub root-of-square : (r : ℕ) → rootOf (r * r) ≡ r
 root-of-square r = sym (root-unique (record { square-at-most = le-refl (r * r); next-square-above = square-< (lt-suc-self r) }))
 
 -- ---- squares
+pub root-squared : (n : ℕ) {r : ℕ} → isSquare n ≡ true → r ≡ rootOf n → r * r ≡ n
+unfolding isSquare
+root-squared n e is-root = ap (λ (k : ℕ). k * k) is-root ∙ eqb-true (rootOf n * rootOf n) n e
+
 pub square-law : (n : ℕ) → (isSquare n ≡ true) ↔ ((r : ℕ) × (n ≡ r * r))
 unfolding isSquare
 square-law n =
-    (λ e. (rootOf n, sym (eqb-true (rootOf n * rootOf n) n e)), λ (r, e). eq-eqb (rootOf n * rootOf n) n (ap (λ (k : ℕ). k * k) (ap rootOf e ∙ root-of-square r) ∙ sym e))
+    (λ e. (rootOf n, sym (root-squared n e refl)), λ (r, e). eq-eqb (rootOf n * rootOf n) n (ap (λ (k : ℕ). k * k) (ap rootOf e ∙ root-of-square r) ∙ sym e))

@@ -2,8 +2,8 @@
 -- remainders, by computation. Assumes nothing.
 use mathlib.Core.Path.{_≡_, sym, ap, _∙_}
 use mathlib.Core.Bool.{false}
-use Prim.Native.Nat.{ℕ, _+_, _*_, _/_, _%_, _^_}
-use native.Mathlib.Nat.{mod-add-div, mod-lt, add-mul-mod-self-left, mul-add, add-mul, mul-assoc, mul-left-comm}
+use Prim.Native.Nat.{ℕ, _*_, _/_, _%_, _^_}
+use native.Mathlib.Nat.{mod-lt, mod-mod}
 use native.Mathlib.Omega.{arith}
 use lib.Dec.{eqb}
 use borrow.Author.Tests.{eq-eqb}
@@ -11,18 +11,10 @@ use Rattle.number.specs.Least.{least}
 use Rattle.number.specs.Square.{isSquare}
 use Rattle.number.proofs.Least.{false-of-not-true, not-true-of-false, fails-below-bound}
 use Rattle.number.proofs.Square.{square-law}
-
-regrouped : (s m q : ℕ) → (s + m * q) * (s + m * q) ≡ s * s + m * (s * q + q * (s + m * q))
-regrouped s m q =
-    omega (arith, add-mul s (m * q) (s + m * q), mul-add s s (m * q), mul-left-comm s m q, mul-assoc m q (s + m * q), mul-add m (s * q) (q * (s + m * q)))
+use Rattle.number.proofs.Modulo.{same-product}
 
 square-remainder : (m r : ℕ) → r * r % m ≡ (r % m) * (r % m) % m
-square-remainder m r =
-    let s : ℕ = r % m in
-    let q : ℕ = r / m in
-    ap (λ (x : ℕ). x * x % m) (sym (mod-add-div r m))
-    ∙ ap (λ (x : ℕ). x % m) (regrouped s m q)
-    ∙ add-mul-mod-self-left (s * s) m (s * q + q * (s + m * q))
+square-remainder m r = same-product m r (r % m) r (r % m) (sym (mod-mod r m)) (sym (mod-mod r m))
 
 abbrev pub bit : ℕ → ℕ → ℕ
 bit mask k = mask / 2 ^ k % 2

@@ -67,6 +67,12 @@ root-divides-root {c} k z free h =
         square-divides-cofactor l m c apart
         (square-divides-cofactor l m (m * c) apart (dvd-of-mul-dvd-mul-left (l * l) (mul-pos p p) common-out))
 
+pub root-divides-root-ℤ : {c : ℤ} (k z : ℤ) → Squarefree c → (k *ℤ k) ∣ℤ (c *ℤ (z *ℤ z)) → k ∣ℤ z
+root-divides-root-ℤ {c} k z free h =
+    divides-by-sizes k z
+    (root-divides-root (natAbs k) (natAbs z) (squarefree-same-size refl free)
+    (rw (← natAbs-* z z, ← natAbs-* c (z *ℤ z), ← natAbs-* k k) (sizes-divide h)))
+
 -- g squarefree, g ∣ b² ⟹ g ∣ b
 pub squarefree-divides-root : {g : ℕ} (b : ℕ) → Squarefree (pos g) → g ∣ b * b → g ∣ b
 squarefree-divides-root {g} b free h =
@@ -78,18 +84,6 @@ squarefree-divides-root {g} b free h =
         let common-out : f * l ∣ f * (m * (m * f)) =
         rw (mul-assoc f m (f * m), mul-comm f m) at h in
         mul-dvd-mul-right l (euclid-lemma-ℕ l m f apart (euclid-lemma-ℕ l m (m * f) apart (dvd-of-mul-dvd-mul-left l p common-out))) l
-
--- both on ℤ
-pub root-divides-root-ℤ : {c : ℤ} (k z : ℤ) → Squarefree c → (k *ℤ k) ∣ℤ (c *ℤ (z *ℤ z)) → k ∣ℤ z
-root-divides-root-ℤ {c} k z free h =
-    divides-by-sizes k z
-    (root-divides-root (natAbs k) (natAbs z) (squarefree-same-size refl free)
-    (rw (← natAbs-* z z, ← natAbs-* c (z *ℤ z), ← natAbs-* k k) (sizes-divide h)))
-
-pub squarefree-divides-root-ℤ : {g : ℤ} (b : ℤ) → Squarefree g → g ∣ℤ (b *ℤ b) → g ∣ℤ b
-squarefree-divides-root-ℤ {g} b free h =
-    divides-by-sizes g b
-    (squarefree-divides-root (natAbs b) (squarefree-same-size refl free) (rw (← natAbs-* b b) (sizes-divide h)))
 
 -- squarefree numbers with no common factor have a squarefree product
 product-on-ℕ : {a b : ℕ} → Coprime (pos a) (pos b) → Squarefree (pos a) → Squarefree (pos b) → Squarefree (pos (a * b))

@@ -2,30 +2,22 @@
 -- it is unique, since each of two such roots divides the other. Assumes nothing.
 use mathlib.Core.Path.{_≡_, refl, sym, _∙_, ap}
 use mathlib.Core.Logic.{_≢_}
-use Prim.Native.Nat.{ℕ, suc, _*_, _/_, _∣_, _≤_, _<_}
-use native.Mathlib.Nat.{le-antisymm, le-trans, ne-of-gt, pos-of-ne-zero, mul-pos, mul-mul-mul-comm, one-mul, le-of-mul-le-mul-right, div-mul-cancel, le-of-dvd, pos-of-dvd-of-pos, one-dvd, dvd-trans, dvd-antisymm, dvd-mul-left, dvd-mul-right, mul-dvd-mul-right}
+use Prim.Native.Nat.{ℕ, _*_, _∣_, _≤_, _<_}
+use native.Mathlib.Nat.{le-antisymm, le-trans, ne-of-gt, mul-pos, mul-mul-mul-comm, one-mul, le-of-mul-le-mul-right, le-of-dvd, pos-of-dvd-of-pos, one-dvd, dvd-trans, dvd-antisymm, dvd-mul-left, dvd-mul-right, mul-dvd-mul-right}
 use native.Mathlib.Omega.{arith}
-use lib.IntN.{ℤ, pos, negsuc, negℤ, natAbs, _*ℤ_, *ℤ-comm}
+use lib.IntN.{ℤ, pos, natAbs, _*ℤ_, *ℤ-comm}
 use lib.Signed.{quotZ}
 use Rattle.number.specs.Divides.{divides}
 use Rattle.number.specs.Least.{firstFrom, least, greatest}
 use Rattle.number.specs.Square.{rootOf}
 use Rattle.number.specs.Squarefree.{Squarefree, squarePart, freePart}
-use Rattle.whole.proofs.Laws.{negℤ-*ℤ}
-use Rattle.whole.proofs.Size.{natAbs-*, natAbs-zero}
+use Rattle.whole.proofs.Size.{natAbs-*, natAbs-positive}
 use Rattle.whole.proofs.Products.{*ℤ-cancel}
+use Rattle.whole.proofs.Quotient.{quot-exact}
 use Rattle.number.proofs.Least.{greatest-at-most, greatest-holds, greatest-is-greatest}
 use Rattle.number.proofs.Divides.{divides-iff}
 use Rattle.number.proofs.Square.{root-is, at-most-root, square-≤}
 use Rattle.number.proofs.Squarefree.{root-divides-root, squarefree-not-zero, squarefree-same-size}
-
-exact-quotient : (x : ℤ) (k : ℕ) → k ∣ natAbs x → quotZ x (pos k) *ℤ pos k ≡ x
-exact-quotient (pos a) k h = ap pos (div-mul-cancel k h)
-exact-quotient (negsuc a) k h =
-    negℤ-*ℤ (pos (suc a / k)) (pos k) ∙ ap (λ (x : ℕ). negℤ (pos x)) (div-mul-cancel k h)
-
-size-positive : {n : ℤ} → n ≢ pos 0 → 0 < natAbs n
-size-positive {n} n≢0 = pos-of-ne-zero (λ e. n≢0 (natAbs-zero n e))
 
 pub record IsSplit (n d : ℤ) (s : ℕ) : Type 0 where
   pub product : n ≡ d *ℤ pos (s * s)
@@ -37,7 +29,7 @@ pub square-part-is-greatest : (n : ℤ) (k : ℕ) → n ≢ pos 0 → k * k ∣ 
 unfolding squarePart
 square-part-is-greatest n k n≢0 h =
     greatest-is-greatest (λ s. divides (s * s) (natAbs n))
-    (at-most-root (natAbs n) (le-of-dvd (size-positive n≢0) h))
+    (at-most-root (natAbs n) (le-of-dvd (natAbs-positive n≢0) h))
     (divides-iff (k * k) .1 h)
 
 pub square-part-positive : (n : ℤ) → n ≢ pos 0 → 0 < squarePart n
@@ -62,7 +54,9 @@ square-part-squared-at-most n =
 
 split-product : (n : ℤ) → n ≢ pos 0 → n ≡ freePart n *ℤ pos (squarePart n * squarePart n)
 unfolding freePart
-split-product n n≢0 = sym (exact-quotient n (squarePart n * squarePart n) (square-part-divides n n≢0))
+split-product n n≢0 =
+    let square : ℤ = pos (squarePart n * squarePart n) in
+    sym (*ℤ-comm (quotZ n square) square ∙ quot-exact n square (square-part-divides n n≢0))
 
 pub size-of-product : {n : ℤ} (d : ℤ) (s : ℕ) → n ≡ d *ℤ pos (s * s) → natAbs n ≡ natAbs d * (s * s)
 size-of-product d s e = ap natAbs e ∙ natAbs-* d (pos (s * s))
@@ -88,7 +82,7 @@ free-part-squarefree n n≢0 = record { no-square = λ d h. le-antisymm (at-most
     at-least-one d h =
         pos-of-dvd-of-pos
         (dvd-trans d (dvd-mul-right d d) (dvd-trans (d * d) h (rw size (dvd-mul-right (natAbs (freePart n)) (squarePart n * squarePart n)))))
-        (size-positive n≢0)
+        (natAbs-positive n≢0)
 
 pub split-is : (n : ℤ) → n ≢ pos 0 → IsSplit n (freePart n) (squarePart n)
 split-is n n≢0 =
@@ -125,7 +119,7 @@ split-equals {n} {d} {s} p = split-unique (split-is n not-zero) p
     not-zero e =
         let size-zero : natAbs d * (s * s) ≡ 0 = sym (size-of-product d s (p .product)) ∙ ap natAbs e in
         let size-not-zero : 0 < natAbs d * (s * s) =
-        mul-pos (size-positive (squarefree-not-zero (p .squarefree))) (mul-pos (p .root-positive) (p .root-positive)) in
+        mul-pos (natAbs-positive (squarefree-not-zero (p .squarefree))) (mul-pos (p .root-positive) (p .root-positive)) in
         omega arith
 
 pub square-part-equals : {m : ℕ} (f s : ℕ) → m ≡ f * (s * s) → 0 < s → Squarefree (pos f) → squarePart (pos m) ≡ s

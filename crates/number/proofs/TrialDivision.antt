@@ -5,16 +5,16 @@ use mathlib.Core.Path.{_≡_, sym, _∙_, ap, subst}
 use mathlib.Core.Logic.{_≢_, _⊎_, ⊎-elim}
 use mathlib.Core.Bool.{true, false}
 use Prim.Native.Nat.{ℕ, _+_, _*_, _/_, _%_, _^_, _∣_, _≤_, _<_}
-use native.Mathlib.Nat.{mul-assoc, mul-comm, mul-one, one-mul, mul-pos, mul-le-mul, mul-le-mul-left, le-mul-of-pos-right, le-trans, le-antisymm, eq-or-lt-of-le, le-of-dvd, lt-of-mul-lt-mul-right, lt-of-lt-of-le, lt-of-le-of-lt, pos-of-dvd-of-pos, pos-of-ne-zero, dvd-trans, dvd-mul-right, dvd-of-mod-eq-zero, mod-eq-zero-of-dvd, le-div-iff-mul-le, div-lt-iff-lt-mul, div-le-self, div-lt-self}
+use native.Mathlib.Nat.{mul-assoc, mul-comm, mul-one, one-mul, mul-pos, mul-le-mul, mul-le-mul-left, le-mul-of-pos-right, le-trans, le-antisymm, eq-or-lt-of-le, le-of-dvd, lt-of-mul-lt-mul-right, lt-of-lt-of-le, lt-of-le-of-lt, lt-of-not-le, pos-of-dvd-of-pos, pos-of-ne-zero, dvd-trans, dvd-mul-right, dvd-of-mod-eq-zero, mod-eq-zero-of-dvd, le-div-iff-mul-le, div-lt-iff-lt-mul, div-le-self, div-lt-self}
 use native.Mathlib.Omega.{arith}
 use lib.IntN.{pos}
 use Rattle.number.specs.Gcd.{Coprime}
 use Rattle.number.specs.Square.{rootOf, isSquare}
 use Rattle.number.specs.Squarefree.{Squarefree, squarePart}
-use Rattle.number.proofs.Least.{not-true-of-false}
+use Rattle.number.proofs.Least.{le-of-not-above, not-true-of-false}
 use Rattle.number.proofs.Divides.{times-quotient, divides-of-multiple}
 use Rattle.number.proofs.Gcd.{coprime-of-common-divisors}
-use Rattle.number.proofs.Square.{root-of-square, square-law}
+use Rattle.number.proofs.Square.{root-squared, square-law}
 use Rattle.number.proofs.SquarePart.{Divided, divided, square-part-of-square, square-part-at-most, square-part-of-square-times, square-part-of-squarefree-times}
 
 -- ---- divisors tried so far
@@ -24,16 +24,13 @@ pub record NoDivisorBelow (d m : ℕ) : Type 0 where
 one-by-not-two : {k : ℕ} → 0 < k → (2 ≤ k → ⊥) → k ≡ 1
 one-by-not-two p f = omega arith
 
-at-least : {d m : ℕ} (k : ℕ) → NoDivisorBelow d m → 2 ≤ k → k ∣ m → d ≤ k
-at-least {d} k tried two h = not-below (λ below. tried .none k two below h)
-  where
-    not-below : (k < d → ⊥) → d ≤ k
-    not-below f = omega arith
+pub at-least : {d m : ℕ} (k : ℕ) → NoDivisorBelow d m → 2 ≤ k → k ∣ m → d ≤ k
+at-least k tried two h = le-of-not-above (λ below. tried .none k two below h)
 
 below-is-one : {d m : ℕ} (k : ℕ) → NoDivisorBelow d m → 0 < k → k < d → k ∣ m → k ≡ 1
 below-is-one k tried p below h = one-by-not-two p (λ two. tried .none k two below h)
 
-fewer-divisors : {d m q : ℕ} → q ∣ m → NoDivisorBelow d m → NoDivisorBelow d q
+pub fewer-divisors : {d m q : ℕ} → q ∣ m → NoDivisorBelow d m → NoDivisorBelow d q
 fewer-divisors h tried = record { none = λ k two below kq. tried .none k two below (dvd-trans k kq h) }
 
 -- the least divisor from 2 up is squarefree, and has no factor in common with a divisor of m that it does not divide
@@ -130,11 +127,8 @@ module _ {n m s d : ℕ} (t : Trial n m s d) (more : d * d ≤ m / d) where
   second-quotient-below = lt-of-le-of-lt (div-le-self (m / d) d) quotient-below
 
   pub divisor-below-bound : n < 2 ^ 64 → d < divisor-limit
-  divisor-below-bound fits = not-above (λ above. too-large (mul-le-mul (mul-le-mul above above) above))
+  divisor-below-bound fits = lt-of-not-le (λ above. too-large (mul-le-mul (mul-le-mul above above) above))
     where
-      not-above : (divisor-limit ≤ d → ⊥) → d < divisor-limit
-      not-above f = omega arith
-
       too-large : 2 ^ 66 ≤ d * d * d → ⊥
       too-large h = omega (arith, cube-at-most)
 
@@ -209,11 +203,7 @@ module _ {n m s d : ℕ} (t : Trial n m s d) (more : d * d ≤ m / d) where
 module _ {n m s d : ℕ} (t : Trial n m s d) where
   pub trial-square : {r : ℕ} → isSquare m ≡ true → r ≡ rootOf m → s * r ≡ squarePart (pos n)
   trial-square {r} e is-root =
-      let square : m ≡ r * r = go (square-law m .0 e) in
-      ap (λ (x : ℕ). s * x) (sym (square-part-of-square r)) ∙ ap (λ (x : ℕ). s * squarePart (pos x)) (sym square) ∙ t .part
-    where
-      go : (x : ℕ) × (m ≡ x * x) → m ≡ r * r
-      go (x, m-is) = m-is ∙ ap (λ (y : ℕ). y * y) (sym (is-root ∙ ap rootOf m-is ∙ root-of-square x))
+      ap (λ (x : ℕ). s * x) (sym (square-part-of-square r)) ∙ ap (λ (x : ℕ). s * squarePart (pos x)) (root-squared m e is-root) ∙ t .part
 
   pub square-times-root-at-most : {r : ℕ} → isSquare m ≡ true → r ≡ rootOf m → s * r ≤ n
   square-times-root-at-most e is-root = rw (trial-square e is-root) (square-part-at-most n)

@@ -132,11 +132,9 @@ fn by_powers(prime: u64, residue: u64) -> Root
     if product(root, root, prime) != residue {
         return scan(prime, residue);
     }
-    if 2 * root < prime {
-        Root::Least(root)
-    } else {
-        Root::Least(prime - root)
-    }
+    let other = prime - root;
+    let least = if root < other { root } else { other };
+    Root::Least(least)
 }
 
 // One division.

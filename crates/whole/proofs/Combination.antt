@@ -1,6 +1,6 @@
--- Linear combination: an equation follows from others by multiples of them.
--- From h : l₁ ≡ r₁ and i : l₂ ≡ r₂, with x − y = c·(l₁ − r₁) + d·(l₂ − r₂), `combine (c ⊠ h ⊞ d ⊠ i) (by-ring ..)` proves x ≡ y; a wrong factor fails as a false identity does.
--- Assumes nothing.
+-- Linear combination: an equation follows from others by multiples of them, since both sides of each may be scaled and added.
+-- From h : l₁ ≡ r₁ and i : l₂ ≡ r₂ with x − y = c·(l₁ − r₁) + d·(l₂ − r₂), `combine (c ⊠ h ⊞ d ⊠ i) (by-ring ..)` proves x ≡ y; a
+-- wrong factor fails as a false identity does. Assumes nothing.
 use mathlib.Core.Path.{_≡_, _∙_, ap, ap₂}
 use lib.IntN.{ℤ, _+ℤ_, _*ℤ_}
 use Rattle.whole.proofs.Laws.{+ℤ-cancel-right}

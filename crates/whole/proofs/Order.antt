@@ -2,13 +2,13 @@
 -- difference that is not negative. A test of order on two whole numbers is, at each pair of signs, a test on naturals or a
 -- constant. Assumes nothing.
 use mathlib.Core.Path.{_≡_, sym, ap, subst}
-use mathlib.Core.Logic.{_≢_, _⊎_, inl, inr}
+use mathlib.Core.Logic.{_≢_, _⊎_, inl, inr, ⊎-elim}
 use mathlib.Core.Bool.{Bool, true, false, not, cond}
 use Prim.Native.Nat.{ℕ, zero, suc, _-_, _≤_, _<_, zero-le, suc-le-suc}
 use native.Mathlib.Nat as Nat
 use lib.Dec.{T, ltb, leb→le, le→leb, ltb→lt, nltb→le}
 use lib.IntN.{ℤ, pos, negsuc, natAbs, subℕ, _-ℤ_}
-use lib.Signed.{_≤ℤ_, _<ℤ_, leZ, ltZ, nonNeg, leZ-yes, ltZ-yes, ltZ-no, ≤ℤ-refl, <ℤ-≤ℤ-trans, clashℤ, yes-nonNeg, pos-natAbs}
+use lib.Signed.{_≤ℤ_, _<ℤ_, leZ, ltZ, nonNeg, leZ-yes, ltZ-yes, ltZ-no, ≤ℤ-refl, clashℤ, yes-nonNeg, pos-natAbs}
 
 -- ---- an order
 
@@ -44,18 +44,7 @@ pub <ℤ-or-≤ℤ : (a b : ℤ) → (a <ℤ b) ⊎ (b ≤ℤ a)
 <ℤ-or-≤ℤ a b = by-test (ltZ a b) ltZ-yes ltZ-no
 
 pub <ℤ-by-not : {a b : ℤ} → ¬ (b ≤ℤ a) → a <ℤ b
-<ℤ-by-not {a} {b} f = pick (<ℤ-or-≤ℤ a b)
-  where
-    pick : (a <ℤ b) ⊎ (b ≤ℤ a) → a <ℤ b
-    pick (inl h) = h
-    pick (inr k) = absurd (f k)
-
-pub ≤ℤ-by-not : {a b : ℤ} → ¬ (b <ℤ a) → a ≤ℤ b
-≤ℤ-by-not {a} {b} f = pick (<ℤ-or-≤ℤ b a)
-  where
-    pick : (b <ℤ a) ⊎ (a ≤ℤ b) → a ≤ℤ b
-    pick (inl h) = absurd (f h)
-    pick (inr k) = k
+<ℤ-by-not {a} {b} f = ⊎-elim (λ h. h) (λ k. absurd (f k)) (<ℤ-or-≤ℤ a b)
 
 weaken-test : (a b : ℤ) → T (ltZ a b) → T (leZ a b)
 weaken-test (pos a) (pos b) h = le→leb a b (Nat.le-of-lt (ltb→lt a b h))
@@ -69,9 +58,6 @@ pub ≤ℤ-of-<ℤ : {a b : ℤ} → a <ℤ b → a ≤ℤ b
 pub ≤ℤ-<ℤ-trans : {a b c : ℤ} → a ≤ℤ b → b <ℤ c → a <ℤ c
 ≤ℤ-<ℤ-trans h k = <ℤ-by-not (λ l. clashℤ k (≤ℤ-trans l h))
 
-pub <ℤ-trans : {a b c : ℤ} → a <ℤ b → b <ℤ c → a <ℤ c
-<ℤ-trans h k = <ℤ-≤ℤ-trans h (≤ℤ-of-<ℤ k)
-
 pub ≢-of-<ℤ : {a b : ℤ} → a <ℤ b → a ≢ b
 ≢-of-<ℤ h e = clashℤ h (≤ℤ-of-≡ (sym e))
 
@@ -79,11 +65,7 @@ pub <ℤ-of-≤ℤ-≢ : {a b : ℤ} → a ≤ℤ b → a ≢ b → a <ℤ b
 <ℤ-of-≤ℤ-≢ h f = <ℤ-by-not (λ k. f (≤ℤ-antisym h k))
 
 pub ≤ℤ-total : (a b : ℤ) → (a ≤ℤ b) ⊎ (b ≤ℤ a)
-≤ℤ-total a b = pick (<ℤ-or-≤ℤ a b)
-  where
-    pick : (a <ℤ b) ⊎ (b ≤ℤ a) → (a ≤ℤ b) ⊎ (b ≤ℤ a)
-    pick (inl h) = inl (≤ℤ-of-<ℤ h)
-    pick (inr k) = inr k
+≤ℤ-total a b = ⊎-elim (λ h. inl (≤ℤ-of-<ℤ h)) inr (<ℤ-or-≤ℤ a b)
 
 pub data Ways (a b : ℤ) : Type 0 where
   below : a <ℤ b → Ways a b
@@ -91,15 +73,7 @@ pub data Ways (a b : ℤ) : Type 0 where
   above : b <ℤ a → Ways a b
 
 pub trichotomy : (a b : ℤ) → Ways a b
-trichotomy a b = first (<ℤ-or-≤ℤ a b)
-  where
-    second : b ≤ℤ a → (b <ℤ a) ⊎ (a ≤ℤ b) → Ways a b
-    second k (inl h) = above h
-    second k (inr l) = equal (≤ℤ-antisym l k)
-
-    first : (a <ℤ b) ⊎ (b ≤ℤ a) → Ways a b
-    first (inl h) = below h
-    first (inr k) = second k (<ℤ-or-≤ℤ b a)
+trichotomy a b = ⊎-elim below (λ k. ⊎-elim above (λ l. equal (≤ℤ-antisym l k)) (<ℤ-or-≤ℤ b a)) (<ℤ-or-≤ℤ a b)
 
 -- ---- naturals
 

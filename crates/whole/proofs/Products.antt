@@ -2,14 +2,14 @@
 -- squares, no zero divisors, cancelling a factor. At each pair of signs a product is a product of naturals with a sign.
 -- Assumes nothing.
 use mathlib.Core.Path.{_≡_, refl, sym, ap, _∙_, subst, subst₂}
-use mathlib.Core.Logic.{_≢_, _⊎_, inl, inr}
+use mathlib.Core.Logic.{_≢_, _⊎_, inl, inr, ⊎-elim}
 use Prim.Native.Nat.{ℕ, zero, suc, _*_, _<_}
 use native.Mathlib.Nat as Nat
 use native.Mathlib.Omega.{arith}
-use lib.IntN.{ℤ, pos, negsuc, negℤ, natAbs, _*ℤ_, negℤ-negℤ, *ℤ-comm, *ℤ-zero}
+use lib.IntN.{ℤ, pos, negsuc, negℤ, natAbs, _*ℤ_, negℤ-negℤ, *ℤ-zero}
 use lib.Signed.{_≤ℤ_, _<ℤ_, clashℤ}
 use Rattle.whole.proofs.Laws.{negℤ-*ℤ}
-use Rattle.whole.proofs.Order.{≤ℤ-<ℤ-trans, ≤ℤ-of-<ℤ, <ℤ-by-not, ≤ℤ-by-not, <ℤ-of-≤ℤ-≢, ≢-of-<ℤ, pos-≤, ≤-of-pos, zero-≤ℤ-pos, negsuc-<ℤ-pos, pos-natAbs-of-≤ℤ}
+use Rattle.whole.proofs.Order.{≤ℤ-<ℤ-trans, ≤ℤ-of-<ℤ, <ℤ-by-not, <ℤ-of-≤ℤ-≢, ≢-of-<ℤ, pos-≤, ≤-of-pos, zero-≤ℤ-pos, negsuc-<ℤ-pos, pos-natAbs-of-≤ℤ}
 use Rattle.whole.proofs.Size.{natAbs-*, natAbs-neg, natAbs-zero}
 use Rattle.whole.proofs.Sums.{negℤ-≤ℤ}
 
@@ -33,18 +33,11 @@ factor-zero (suc m) (suc n) e = absurd (none m n e)
     none m n e = omega arith
 
 pub zero-factor : (a b : ℤ) → a *ℤ b ≡ pos 0 → (a ≡ pos 0) ⊎ (b ≡ pos 0)
-zero-factor a b e = pick (factor-zero (natAbs a) (natAbs b) (sym (natAbs-* a b) ∙ ap natAbs e))
-  where
-    pick : (natAbs a ≡ 0) ⊎ (natAbs b ≡ 0) → (a ≡ pos 0) ⊎ (b ≡ pos 0)
-    pick (inl p) = inl (natAbs-zero a p)
-    pick (inr p) = inr (natAbs-zero b p)
+zero-factor a b e =
+    ⊎-elim (λ p. inl (natAbs-zero a p)) (λ p. inr (natAbs-zero b p)) (factor-zero (natAbs a) (natAbs b) (sym (natAbs-* a b) ∙ ap natAbs e))
 
 pub zero-of-square : (a : ℤ) → a *ℤ a ≡ pos 0 → a ≡ pos 0
-zero-of-square a e = pick (zero-factor a a e)
-  where
-    pick : (a ≡ pos 0) ⊎ (a ≡ pos 0) → a ≡ pos 0
-    pick (inl p) = p
-    pick (inr p) = p
+zero-of-square a e = ⊎-elim (λ p. p) (λ p. p) (zero-factor a a e)
 
 pub zero-<ℤ-square : {a : ℤ} → a ≢ pos 0 → pos 0 <ℤ (a *ℤ a)
 zero-<ℤ-square {a} f = <ℤ-of-≤ℤ-≢ (zero-≤ℤ-square a) (λ e. f (zero-of-square a (sym e)))
@@ -69,9 +62,6 @@ pos-times-≤ℤ c (negsuc a) (negsuc b) h = negℤ-≤ℤ (pos-≤ (Nat.mul-le-
 pub *ℤ-mono : {a b c : ℤ} → pos 0 ≤ℤ c → a ≤ℤ b → (c *ℤ a) ≤ℤ (c *ℤ b)
 *ℤ-mono {a} {b} {c} h k = subst (λ (x : ℤ). (x *ℤ a) ≤ℤ (x *ℤ b)) (pos-natAbs-of-≤ℤ h) (pos-times-≤ℤ (natAbs c) a b k)
 
-pub *ℤ-mono-right : {a b c : ℤ} → pos 0 ≤ℤ c → a ≤ℤ b → (a *ℤ c) ≤ℤ (b *ℤ c)
-*ℤ-mono-right {a} {b} {c} h k = subst₂ (λ (x y : ℤ). x ≤ℤ y) (*ℤ-comm c a) (*ℤ-comm c b) (*ℤ-mono h k)
-
 -- ---- cancelling a factor
 
 -- no product that is not negative is n + 1 times a negative number
@@ -92,9 +82,6 @@ pub *ℤ-cancel : (c : ℤ) {a b : ℤ} → c ≢ pos 0 → c *ℤ a ≡ c *ℤ 
 
 pub *ℤ-mono-< : {a b c : ℤ} → pos 0 <ℤ c → a <ℤ b → (c *ℤ a) <ℤ (c *ℤ b)
 *ℤ-mono-< {a} {b} {c} h k = <ℤ-of-≤ℤ-≢ (*ℤ-mono (≤ℤ-of-<ℤ h) (≤ℤ-of-<ℤ k)) (λ e. ≢-of-<ℤ k (*ℤ-cancel c (λ z. ≢-of-<ℤ h (sym z)) e))
-
-pub *ℤ-cancel-≤ℤ : {a b c : ℤ} → pos 0 <ℤ c → (c *ℤ a) ≤ℤ (c *ℤ b) → a ≤ℤ b
-*ℤ-cancel-≤ℤ h k = ≤ℤ-by-not (λ l. clashℤ (*ℤ-mono-< h l) k)
 
 pub *ℤ-cancel-<ℤ : {a b c : ℤ} → pos 0 ≤ℤ c → (c *ℤ a) <ℤ (c *ℤ b) → a <ℤ b
 *ℤ-cancel-<ℤ h k = <ℤ-by-not (λ l. clashℤ k (*ℤ-mono h l))

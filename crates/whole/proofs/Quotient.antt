@@ -29,9 +29,6 @@ quot-rem (negsuc x) (negsuc k) = ap (λ (z : ℤ). z +ℤ negℤ (pos (suc x % s
 pub rem-zero : (x k : ℤ) → natAbs k ∣ natAbs x → remZ x k ≡ pos 0
 rem-zero x k d = natAbs-zero (remZ x k) (natAbs-rem x k ∙ Nat.mod-eq-zero-of-dvd (natAbs k) d)
 
-pub divides-of-rem-zero : (x k : ℤ) → remZ x k ≡ pos 0 → natAbs k ∣ natAbs x
-divides-of-rem-zero x k e = Nat.dvd-of-mod-eq-zero (natAbs k) (sym (natAbs-rem x k) ∙ ap natAbs e)
-
 pub quot-exact : (x k : ℤ) → natAbs k ∣ natAbs x → k *ℤ quotZ x k ≡ x
 quot-exact x k d = sym (+ℤ-idr (k *ℤ quotZ x k)) ∙ ap (λ (z : ℤ). k *ℤ quotZ x k +ℤ z) (sym (rem-zero x k d)) ∙ quot-rem x k
 

@@ -1,19 +1,23 @@
--- The ring prover. An identity between whole numbers is one line, whose list names the letters of the identity, at most 24, in any order:
---     square-of-sum : (a b : ℤ) → (a +ℤ b) *ℤ (a +ℤ b) ≡ a *ℤ a +ℤ pos 2 *ℤ a *ℤ b +ℤ b *ℤ b
---     square-of-sum a b = by-ring (a ∷ b ∷ []) (search reify depth 64 fits 9999) tt
--- `search` reads the two sides as expressions in those letters, and `tt` is the computed test that both come to one polynomial.
--- A letter is any term, such as `q .a`, `pos n` or `f x`; `pos (m * n)` is read as a product of `pos m` and `pos n`.
--- A letter that the list leaves out: `search` says that it found no proof of an `Equation`. A false identity: `tt` is refused, `⊥` against `Unit`.
--- A degree of 256 or more is refused in the same way. Assumes nothing.
+-- The ring prover: an identity between whole numbers holds where its two sides, read as expressions in their letters, come to one
+-- polynomial, which is a computed test. `search` reads them, since each form of an expression is a rule.
+-- Assumes nothing.
 use mathlib.Core.Path.{_≡_, refl, sym, _∙_, ap, ap₂}
 use mathlib.Core.Bool.{Bool, true, false, _&&_}
 use mathlib.Core.List.{List, _∷_}
 use Prim.Native.Nat.{ℕ, zero, suc, _+_, _*_}
 use lib.Dec.{T, leb, ltb, ltb→lt}
 use lib.IntN.{ℤ, pos, negsuc, negℤ, _+ℤ_, _-ℤ_, zero-*ℤ}
+use lib.Ieee.Fits.{and-l, and-r}
 use Rattle.whole.proofs.Laws.{equal-of-difference}
 use Rattle.whole.proofs.Polynomial.{Polynomial, none, term, add, negate, monomial, value, value-add, value-negate}
 use Rattle.whole.proofs.Expression.{Reads, letter, sum, product, negation, constant, Equation, equation, normal, degree, value-normal}
+
+-- ---- in use: an identity is one line, whose list names its letters, at most 24, in any order
+--     square-of-sum : (a b : ℤ) → (a +ℤ b) *ℤ (a +ℤ b) ≡ a *ℤ a +ℤ pos 2 *ℤ a *ℤ b +ℤ b *ℤ b
+--     square-of-sum a b = by-ring (a ∷ b ∷ []) (search reify depth 64 fits 9999) tt
+-- A letter is any term, such as `q .a`, `pos n` or `f x`; `pos (m * n)` is read as a product of `pos m` and `pos n`.
+-- A letter that the list leaves out: `search` says that it found no proof of an `Equation`. A false identity, or a degree of 256 or
+-- more: `tt` is refused, `⊥` against `Unit`.
 
 -- ---- reading an expression: a rule for each place of the list of letters
 
@@ -126,23 +130,20 @@ value-vanishes ρ (term m (pos zero) p) t = ap₂ _+ℤ_ (zero-*ℤ (monomial ρ
 value-vanishes ρ (term m (pos (suc n)) p) t = absurd t
 value-vanishes ρ (term m (negsuc n) p) t = absurd t
 
-both : (a b : Bool) → T (a && b) → T a × T b
-both true b t = (tt, t)
-both false b t = absurd t
-
 pub by-ring : (ρ : List ℤ) {x y : ℤ} (q : Equation ρ x y) → T (holds q) → x ≡ y
-by-ring ρ {x} {y} (equation l r) t = equal-of-difference x y (sym (difference (degrees .0) (degrees .1)) ∙ value-vanishes ρ rest (tested .1))
+by-ring ρ {x} {y} (equation l r) t = equal-of-difference x y (sym difference ∙ value-vanishes ρ rest (and-r degrees (vanishes rest) t))
   where
     rest : Polynomial
     rest = add (normal l) (negate (normal r))
 
-    tested : T (ltb (degree l) 256 && ltb (degree r) 256) × T (vanishes rest)
-    tested = both (ltb (degree l) 256 && ltb (degree r) 256) (vanishes rest) t
+    degrees : Bool
+    degrees = ltb (degree l) 256 && ltb (degree r) 256
 
-    degrees : T (ltb (degree l) 256) × T (ltb (degree r) 256)
-    degrees = both (ltb (degree l) 256) (ltb (degree r) 256) (tested .0)
+    small : T degrees
+    small = and-l degrees (vanishes rest) t
 
-    difference : T (ltb (degree l) 256) → T (ltb (degree r) 256) → value ρ rest ≡ x -ℤ y
-    difference i j =
+    difference : value ρ rest ≡ x -ℤ y
+    difference =
         value-add ρ (normal l) (negate (normal r))
-        ∙ ap₂ _+ℤ_ (value-normal l (ltb→lt (degree l) 256 i)) (value-negate ρ (normal r) ∙ ap negℤ (value-normal r (ltb→lt (degree r) 256 j)))
+        ∙ ap₂ _+ℤ_ (value-normal l (ltb→lt (degree l) 256 (and-l (ltb (degree l) 256) _ small)))
+        (value-negate ρ (normal r) ∙ ap negℤ (value-normal r (ltb→lt (degree r) 256 (and-r (ltb (degree l) 256) _ small))))

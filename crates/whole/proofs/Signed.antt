@@ -1,8 +1,6 @@
--- The machine's arithmetic by size. `Sized m` says of a whole number m that the machine computed which number it stands for
--- and how large that is at most; `Counted n` says so of a natural number, and `Stored w n` of the bits n of a signed type.
--- `search sizes` builds one from bounds on the leaves, which it finds among the hypotheses. Where all that was stored on the
--- way is within its width, a computed test that `tt` passes, the number fits (`fits`), is the one it stands for (`reads`)
--- and is at most so large (`bounds`). Assumes nothing.
+-- The machine's arithmetic by size: of each result, which number it stands for and how large that is at most, built by `search sizes`
+-- from bounds on the leaves among the hypotheses. Where all that was stored on the way is within its width, which `tt` tests, the
+-- number fits (`fits`), is the one it stands for (`reads`) and is at most so large (`bounds`). Assumes nothing.
 use mathlib.Core.Path.{_≡_, refl, sym, ap, ap₂, _∙_, subst}
 use mathlib.Core.Bool.{Bool, true, _&&_}
 use Prim.Native.Nat.{ℕ, suc, _+_, _*_, _^_, _≤_, _<_}
@@ -16,6 +14,7 @@ use mir.Val.{Fits, SFits, bits, hbits, toZ, ofZ}
 use mir.Facts.{toZ-ofZ, fits-ofZ, fits-lit}
 use Rattle.whole.proofs.Size.{natAbs-neg, natAbs-+, natAbs-*, natAbs-quot, natAbs-rem, mag-≤-natAbs}
 
+-- of a whole number, of a natural number, and of the bits of a signed type
 pub record Sized (m : ℤ) : Type 0 where
   pub value : ℤ
   pub bound : ℕ

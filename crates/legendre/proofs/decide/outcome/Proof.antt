@@ -30,7 +30,7 @@ found-is c = c .least-failing .ensures ∙ in-the-numbers found (c .before .befo
 -- ---- the needs
 
 one-sign-requires : tie.Need-one-sign-requires
-one-sign-requires c κs = search needs
+one-sign-requires c κs = search
 
 returns : tie.Need-returns
 returns c =
@@ -41,7 +41,7 @@ least-failing-requires : tie.Need-least-failing-requires
 least-failing-requires c κs = search needs
 
 enum-known-prime : tie.Need-enum-known-prime
-enum-known-prime c = search needs
+enum-known-prime c = search
 
 returns-2 : tie.Need-returns-2
 returns-2 c =
@@ -51,7 +51,7 @@ returns-2 c =
     ap (λ o. answerOf o t) (sym (c .before .prime .given .1) ∙ found-is f) ∙ answer-mixed (s .args .p) (s .args .g) (s .args .q) (mixed (f .before))
 
 enum-told : tie.Need-enum-told
-enum-told c = search needs
+enum-told c = search
 
 chosen-requires : tie.Need-chosen-requires
 chosen-requires c κs =

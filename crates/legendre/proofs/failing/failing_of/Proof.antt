@@ -3,7 +3,6 @@
 use mathlib.Core.Path.{_≡_, ap, ap₂, _∙_}
 use Prim.Native.Nat.{ℕ, suc, _^_, _≤_}
 use native.Mathlib.Omega.{arith}
-use borrow.Author.Needs.{needs}
 use lib.IntN.{ℤ, natAbs, _*ℤ_}
 use mir.Facts.{toZ-ofZ}
 use Rattle.legendre.specs.Search.{leastBelow, fails}
@@ -12,7 +11,7 @@ use Rattle.legendre.proofs.failing.failing_of.Statement.{statement}
 use Rattle.legendre.proofs.failing.failing_of.Tie as tie
 
 magnitude-requires : tie.Need-magnitude-requires
-magnitude-requires c κs = search needs
+magnitude-requires c κs = search
 
 module _ (c : tie.After-magnitude) where
   small : natAbs (c .before .args .b *ℤ c .before .args .c) ≤ 2 ^ 62

@@ -1,7 +1,6 @@
 -- `legendre::failing::least_failing` meets its contract: the condition fails at a prime where it fails for one of the three, so that
 -- the smallest of the three finds is the least failing prime. Assumes nothing.
 use mathlib.Core.Path.{sym, ap₂, subst₃, _∙_}
-use borrow.Author.Needs.{needs}
 use mir.Facts.{toZ-ofZ}
 use Rattle.legendre.specs.Reach.{Part}
 use Rattle.legendre.specs.Search.{smallerOf, failingOf}
@@ -24,10 +23,10 @@ failing-of-requires-3 c κs =
     subst₃ Part (sym (toZ-ofZ (s .fits .q))) (sym (toZ-ofZ (s .fits .p))) (sym (toZ-ofZ (s .fits .g))) (part-q (s .pre))
 
 smaller-requires : tie.Need-smaller-requires
-smaller-requires c κs = search needs
+smaller-requires c κs = search
 
 smaller-requires-2 : tie.Need-smaller-requires-2
-smaller-requires-2 c κs = search needs
+smaller-requires-2 c κs = search
 
 returns : tie.Need-returns
 returns c =

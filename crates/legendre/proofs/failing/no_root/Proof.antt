@@ -2,7 +2,6 @@
 use mathlib.Core.Path.{_≡_, refl, sym, ap, _∙_}
 use mathlib.Core.Bool.{Bool, true, false, not}
 use Prim.Native.Nat.{ℕ}
-use borrow.Author.Needs.{needs}
 use lib.IntN.{ℤ}
 use mir.Facts.{toZ-ofZ}
 use Rattle.number.specs.Residue.{isSquareModulo, leastRootOf}
@@ -27,13 +26,13 @@ unfolding leastRoot
 told l {n} {m} e same = ap isNothing e ∙ nothing-iff (isSquareModulo l n) (leastRootOf l n) ∙ ap (λ (k : ℤ). not (isSquareModulo l k)) same
 
 least-root-requires : tie.Need-least-root-requires
-least-root-requires c κs = search needs
+least-root-requires c κs = search
 
 enum-told : tie.Need-enum-told
-enum-told c = search needs
+enum-told c = search
 
 enum-told-2 : tie.Need-enum-told-2
-enum-told-2 c = search needs
+enum-told-2 c = search
 
 returns : tie.Need-returns
 unfolding isNothing

@@ -1,26 +1,25 @@
 -- `legendre::least::smaller` meets its contract: each return is one case of `smallerOf`. Assumes nothing.
 use mathlib.Core.Path.{sym, ap, ap₂, _∙_}
 use native.Mathlib.Nat.{min-eq-left, min-eq-right, le-of-lt}
-use borrow.Author.Needs.{needs}
 use Rattle.legendre.specs.Search.{smallerOf}
 use Rattle.legendre.specs.declared.least.Least.the-variants.{At}
 use Rattle.legendre.proofs.least.smaller.Statement.{statement}
 use Rattle.legendre.proofs.least.smaller.Tie as tie
 
 enum-known-a : tie.Need-enum-known-a
-enum-known-a c = search needs
+enum-known-a c = search
 
 enum-told : tie.Need-enum-told
-enum-told c = search needs
+enum-told c = search
 
 returns : tie.Need-returns
-returns c = search needs
+returns c = search
 
 enum-known-b : tie.Need-enum-known-b
-enum-known-b c = search needs
+enum-known-b c = search
 
 enum-told-2 : tie.Need-enum-told-2
-enum-told-2 c = search needs
+enum-told-2 c = search
 
 returns-2 : tie.Need-returns-2
 returns-2 c = sym (ap₂ smallerOf (c .before .before .before .a .given .1) (c .enum-told2 .given .1))

@@ -1,7 +1,6 @@
 -- `legendre::signs::one_sign` meets its contract: the three are of one sign where the first two and the last two are. Assumes nothing.
 use mathlib.Core.Path.{_≡_, sym, ap, ap₂, _∙_}
 use mathlib.Core.Bool.{Bool, _&&_}
-use borrow.Author.Needs.{needs}
 use mir.Facts.{toZ-ofZ}
 use Rattle.legendre.specs.Search.{sameSign}
 use Rattle.legendre.proofs.SameSign.{one-sign-of-pairs}
@@ -13,10 +12,10 @@ first : (c : tie.After-same-sign) → c .same-sign .result ≡ sameSign (c .befo
 first c = c .same-sign .ensures ∙ ap₂ sameSign (toZ-ofZ (c .before .fits .p)) (toZ-ofZ (c .before .fits .g))
 
 same-sign-requires : tie.Need-same-sign-requires
-same-sign-requires c κs = search needs
+same-sign-requires c κs = search
 
 same-sign-requires-2 : tie.Need-same-sign-requires-2
-same-sign-requires-2 c κs = search needs
+same-sign-requires-2 c κs = search
 
 returns : tie.Need-returns
 returns c =

@@ -5,7 +5,6 @@ use mathlib.Core.Logic.{_≢_}
 use Prim.Native.Nat.{ℕ, _+_, _-_, _^_, _≤_}
 use native.Mathlib.Nat.{le-trans}
 use native.Mathlib.Omega.{arith}
-use borrow.Author.Needs.{needs}
 use lib.IntN.{ℤ, pos}
 use mir.Syntax.{w64}
 use mir.Val.{toZ}
@@ -47,7 +46,7 @@ row-requires : tie.Need-row-requires Inv-loop μ-loop
 row-requires c κs = rw (toZ-ofZ (c .before .fits .p), toZ-ofZ (c .before .fits .g), toZ-ofZ (c .before .fits .q)) (row c)
 
 enum-known-x : tie.Need-enum-known-x Inv-loop μ-loop
-enum-known-x c = search needs
+enum-known-x c = search
 
 returns : tie.Need-returns Inv-loop μ-loop
 returns c =
@@ -63,7 +62,7 @@ returns c =
     (chosen-is-chosen (s .args .p) (s .args .g) (s .args .q) g≢0 (s .pre .solvable))
 
 enum-told : tie.Need-enum-told Inv-loop μ-loop
-enum-told c = search needs
+enum-told c = search
 
 add-w : tie.Need-add-w Inv-loop μ-loop
 add-w c = omega (arith, w-small (c .before .before .before))

@@ -2,7 +2,6 @@
 use mathlib.Core.Path.{_≡_, sym, ap, ap₂, _∙_}
 use Prim.Native.Nat.{_^_, _≤_}
 use native.Mathlib.Omega.{arith}
-use borrow.Author.Needs.{needs}
 use lib.IntN.{ℤ, natAbs, _*ℤ_}
 use mir.Facts.{toZ-ofZ}
 use Rattle.number.proofs.Squarefree.{squarefree-not-zero}
@@ -64,7 +63,7 @@ terms-requires : tie.Need-terms-requires
 terms-requires c κs = rw (toZ-ofZ (c .fits .p), toZ-ofZ (c .fits .q)) (small-terms c)
 
 same-sign-requires : tie.Need-same-sign-requires
-same-sign-requires c κs = search needs
+same-sign-requires c κs = search
 
 returns : tie.Need-returns
 unfolding value
@@ -73,10 +72,10 @@ returns c =
     none-same-sign (s .args .p) (s .args .g) (s .args .q) (s .args .w) (s .args .x) (sym (sign-is (c .before)) ∙ c .if1 .taken)
 
 magnitude-requires : tie.Need-magnitude-requires
-magnitude-requires c κs = search needs
+magnitude-requires c κs = search
 
 magnitude-requires-2 : tie.Need-magnitude-requires-2
-magnitude-requires-2 c κs = search needs
+magnitude-requires-2 c κs = search
 
 rem-if2 : tie.Need-rem-if2
 rem-if2 c = divisor-positive (division c)
@@ -95,7 +94,7 @@ mul-magnitude c =
     product-fits (s .fits .p) (s .fits .q) (small s)
 
 magnitude-requires-3 : tie.Need-magnitude-requires-3
-magnitude-requires-3 c κs = search needs
+magnitude-requires-3 c κs = search
 
 returns-3 : tie.Need-returns-3
 returns-3 c =
@@ -118,10 +117,10 @@ returns-4 c =
     none-all-zero (division m) (c .if4 .taken)
 
 is-square-requires : tie.Need-is-square-requires
-is-square-requires c κs = search needs
+is-square-requires c κs = search
 
 root-requires : tie.Need-root-requires
-root-requires c κs = search needs
+root-requires c κs = search
 
 returns-5 : tie.Need-returns-5
 unfolding value

@@ -4,7 +4,6 @@ use mathlib.Core.Path.{_≡_, ap, subst₃, _∙_}
 use Prim.Native.Nat.{ℕ, _+_, _-_, _*_, _^_, _≤_}
 use native.Mathlib.Nat.{le-trans, mul-le-mul}
 use native.Mathlib.Omega.{arith}
-use borrow.Author.Needs.{needs}
 use lib.IntN.{ℤ, natAbs, _*ℤ_}
 use mir.Syntax.{w64}
 use mir.Val.{toZ}
@@ -43,7 +42,7 @@ mul-magnitude : tie.Need-mul-magnitude Inv-loop μ-loop
 mul-magnitude c = product-fits (c .fits .g) (c .fits .q) (small c)
 
 magnitude-requires : tie.Need-magnitude-requires Inv-loop μ-loop
-magnitude-requires c κs = search needs
+magnitude-requires c κs = search
 
 loop-holds : tie.Need-loop-holds Inv-loop μ-loop
 loop-holds c = (omega arith, row-start _ _ _ _)
@@ -57,7 +56,7 @@ height-requires c κs =
     rw (toZ-ofZ (s .fits .p), toZ-ofZ (s .fits .g), toZ-ofZ (s .fits .q)) (record { row = s .pre; x-within = x-within c })
 
 enum-known-y : tie.Need-enum-known-y Inv-loop μ-loop
-enum-known-y c = search needs
+enum-known-y c = search
 
 returns : tie.Need-returns Inv-loop μ-loop
 returns c =
@@ -69,7 +68,7 @@ returns c =
     (rw (y .1) at h, l .loop .inv .1 .none)
 
 enum-told : tie.Need-enum-told Inv-loop μ-loop
-enum-told c = search needs
+enum-told c = search
 
 add-x : tie.Need-add-x Inv-loop μ-loop
 add-x c = omega (arith, x-small (c .before .before .before))

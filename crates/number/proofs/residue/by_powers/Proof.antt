@@ -3,7 +3,6 @@
 use mathlib.Core.Path.{_≡_, sym, ap, _∙_}
 use Prim.Native.Nat.{_-_, min}
 use native.Mathlib.Omega.{arith}
-use borrow.Author.Needs.{needs}
 use lib.IntN.{pos}
 use Rattle.number.specs.Root.{leastRoot}
 use Rattle.number.specs.declared.residue.Root.the-variants.{Least}
@@ -12,10 +11,10 @@ use Rattle.number.proofs.residue.by_powers.Statement.{statement}
 use Rattle.number.proofs.residue.by_powers.Tie as tie
 
 sub-power : tie.Need-sub-power
-sub-power c = search needs
+sub-power c = omega arith
 
 power-requires : tie.Need-power-requires
-power-requires c κs = search needs
+power-requires c κs = search
 
 returns : tie.Need-returns
 returns c =
@@ -23,22 +22,19 @@ returns c =
     sym (refuted (given .modulus .prime) (given .at-least-two) (given .below) (λ e. c .if1 .taken (c .before .power .ensures .value ∙ e)))
 
 candidate-requires : tie.Need-candidate-requires
-candidate-requires c κs = search needs
+candidate-requires c κs = search
 
 product-requires : tie.Need-product-requires
-product-requires c κs = search needs
+product-requires c κs = search
 
 scan-requires : tie.Need-scan-requires
-scan-requires c κs = search needs
+scan-requires c κs = search
 
 returns-2 : tie.Need-returns-2
-returns-2 c = search needs
+returns-2 c = search
 
-mul-if3 : tie.Need-mul-if3
-mul-if3 c = search needs
-
-sub-t9 : tie.Need-sub-t9
-sub-t9 c = search needs
+sub-other : tie.Need-sub-other
+sub-other c = omega arith
 
 -- what the candidate's test leaves
 tested : (c : tie.Else2) →
@@ -66,7 +62,6 @@ by-powers-spec =
     product-requires
     scan-requires
     returns-2
-    mul-if3
-    sub-t9
+    sub-other
     returns-3
     returns-4)

@@ -3,7 +3,6 @@
 use mathlib.Core.Path.{_≡_, sym, ap, _∙_}
 use Prim.Native.Nat.{ℕ}
 use native.Mathlib.Omega.{arith}
-use borrow.Author.Needs.{needs}
 use lib.IntN.{pos}
 use mir.Facts.{toZ-ofZ}
 use Rattle.number.specs.Remainder.{remainderOf}
@@ -14,7 +13,7 @@ use Rattle.number.proofs.residue.least_root.Statement.{statement}
 use Rattle.number.proofs.residue.least_root.Tie as tie
 
 remainder-requires : tie.Need-remainder-requires
-remainder-requires c κs = search needs
+remainder-requires c κs = search
 
 -- the residue stands for the number
 for-residue : (c : tie.After-remainder) →

@@ -5,7 +5,6 @@ use mathlib.Core.Logic.{⊎-elim}
 use Prim.Native.Nat.{ℕ, _*_, _^_, _/_, _%_, _<_}
 use native.Mathlib.Nat.{one-mul}
 use native.Mathlib.Omega.{arith}
-use borrow.Author.Needs.{needs}
 use Rattle.number.proofs.Modulo.{power-even, power-odd, power-done}
 use Rattle.number.proofs.residue.power.Statement.{statement}
 use Rattle.number.proofs.residue.power.Tie as tie
@@ -24,13 +23,13 @@ loop-holds : tie.Need-loop-holds Inv-loop μ-loop
 loop-holds c = (omega arith, omega arith, ap (λ (x : ℕ). x % c .args .modulus) (one-mul (c .args .base ^ c .args .exponent)))
 
 product-requires : tie.Need-product-requires Inv-loop μ-loop
-product-requires c κs = search needs
+product-requires c κs = search
 
 product-requires-2 : tie.Need-product-requires-2 Inv-loop μ-loop
-product-requires-2 c κs = search needs
+product-requires-2 c κs = search
 
 loop-less : tie.Need-loop-less Inv-loop μ-loop
-loop-less c = search needs
+loop-less c = omega arith
 
 loop-again : tie.Need-loop-again Inv-loop μ-loop
 loop-again c =

@@ -10,12 +10,11 @@ use Rattle.whole.proofs.Order.{zero-≤ℤ-pos}
 use Rattle.whole.proofs.Signed.{ranges}
 use Rattle.whole.proofs.SignedTests.{tests, tells, ltZ-true, ltZ-false}
 use Rattle.number.specs.Remainder.{remainderOf}
-use borrow.Author.Needs.{needs}
 use Rattle.number.proofs.residue.remainder.Statement.{statement}
 use Rattle.number.proofs.residue.remainder.Tie as tie
 
 magnitude-requires : tie.Need-magnitude-requires
-magnitude-requires c κs = search needs
+magnitude-requires c κs = search
 
 negative-size : (m : ℤ) → m <ℤ pos 0 → 1 ≤ natAbs m
 negative-size (pos a) h = clashℤ h (zero-≤ℤ-pos a)
@@ -35,7 +34,7 @@ of-natural n (pos a) h = refl
 of-natural n (negsuc a) h = absurd (h .le)
 
 sub-result : tie.Need-sub-result
-sub-result c = search needs
+sub-result c = omega arith
 
 size-is : (c : tie.After-magnitude) → c .magnitude .result ≡ natAbs (c .before .args .number)
 size-is c = c .magnitude .ensures ∙ ap natAbs (toZ-ofZ (c .before .fits .number))
@@ -47,13 +46,13 @@ sub-result-2 : tie.Need-sub-result-2
 sub-result-2 c = omega (arith, size-is (c .before), negative-size (c .before .before .args .number) (negative c))
 
 rem-result : tie.Need-rem-result
-rem-result c = search needs
+rem-result c = omega arith
 
 sub-result-3 : tie.Need-sub-result-3
 sub-result-3 c = omega (arith, mod-lt (c .before .magnitude .result - 1) {m = c .before .before .args .modulus} (omega arith))
 
 rem-result-2 : tie.Need-rem-result-2
-rem-result-2 c = search needs
+rem-result-2 c = omega arith
 
 returns : tie.Need-returns
 returns c = rw (size-is (c .before)) (of-negative (c .before .before .args .modulus) (c .before .before .args .number) (negative c))

@@ -6,7 +6,6 @@ use Prim.Native.Nat.{ℕ, _+_, _*_, _-_, _%_, _≤_, _<_}
 use native.Mathlib.Nat.{mod-lt, zero-mod, not-suc-le-zero}
 use native.Mathlib.Omega.{arith}
 use borrow.Author.Count.{below-more}
-use borrow.Author.Needs.{needs}
 use Rattle.number.specs.Root.{ProperResidue}
 use Rattle.number.proofs.Fermat.{odd-prime}
 use Rattle.number.proofs.LeastRoot.{first-root, no-root, next-square-below, next-square-above}
@@ -27,7 +26,7 @@ loop-holds : tie.Need-loop-holds Inv-loop μ-loop
 loop-holds c = (omega arith, sym (zero-mod (c .args .prime)), λ i h e. not-suc-le-zero h)
 
 mul-loop : tie.Need-mul-loop Inv-loop μ-loop
-mul-loop c = search needs
+mul-loop c = omega arith
 
 returns : tie.Need-returns Inv-loop μ-loop
 returns c =
@@ -36,7 +35,7 @@ returns c =
     sym (first-root (c .before .before .loop .root) (given .below) (omega arith) (sym (inv .1) ∙ c .if1 .taken) (inv .2))
 
 mul-square : tie.Need-mul-square Inv-loop μ-loop
-mul-square c = search needs
+mul-square c = omega arith
 
 add-square : tie.Need-add-square Inv-loop μ-loop
 add-square c = omega (arith, mod-lt (c .before .before .loop .root * c .before .before .loop .root) (positive (c .before .before .before .pre)))
@@ -45,10 +44,10 @@ add-square-2 : tie.Need-add-square-2 Inv-loop μ-loop
 add-square-2 c = omega (arith, mod-lt (c .before .before .loop .root * c .before .before .loop .root) (positive (c .before .before .before .pre)))
 
 add-root : tie.Need-add-root Inv-loop μ-loop
-add-root c = search needs
+add-root c = omega arith
 
 loop-less : tie.Need-loop-less Inv-loop μ-loop
-loop-less c = search needs
+loop-less c = omega arith
 
 loop-again : tie.Need-loop-again Inv-loop μ-loop
 loop-again c =

@@ -3,7 +3,6 @@
 use mathlib.Core.Path.{refl, sym, ap}
 use Prim.Native.Nat.{ℕ, _*_}
 use native.Mathlib.Omega.{arith}
-use borrow.Author.Needs.{needs}
 use lib.Dec.{eqb}
 use Rattle.number.specs.Least.{least, firstFrom}
 use Rattle.number.specs.Square.{isSquare}
@@ -13,14 +12,14 @@ use Rattle.number.proofs.roots.is_square.Statement.{statement}
 use Rattle.number.proofs.roots.is_square.Tie as tie
 
 shr-if1 : tie.Need-shr-if1
-shr-if1 c = search needs
+shr-if1 c = omega arith
 
 returns : tie.Need-returns
 unfolding least firstFrom
 returns c = sym (no-square _ (c .before .args .n) (c .if1 .taken) refl)
 
 root-requires : tie.Need-root-requires
-root-requires c κs = search needs
+root-requires c κs = search
 
 mul-result : tie.Need-mul-result
 mul-result c = omega (arith, root-law (c .before .before .args .n) (c .root .result) .1 (c .root .ensures))

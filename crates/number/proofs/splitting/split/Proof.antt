@@ -4,7 +4,6 @@ use mathlib.Core.Path.{_≡_, _∙_, ap}
 use Prim.Native.Nat.{_<_}
 use native.Mathlib.Nat.{mul-pos}
 use native.Mathlib.Omega.{arith}
-use borrow.Author.Needs.{needs}
 use lib.IntN.{pos}
 use mir.Syntax.{w64}
 use mir.Val.{ofZ}
@@ -19,10 +18,10 @@ returns : tie.Need-returns
 returns c = split-of-zero (zero-of-bits (c .before .fits .n) (c .if1 .taken))
 
 magnitude-requires : tie.Need-magnitude-requires
-magnitude-requires c κs = search needs
+magnitude-requires c κs = search
 
 square-part-requires : tie.Need-square-part-requires
-square-part-requires c κs = search needs
+square-part-requires c κs = search
 
 part : (c : tie.After-square-part) → c .square-part .result ≡ squarePart (c .before .before .before .args .n)
 unfolding squarePart

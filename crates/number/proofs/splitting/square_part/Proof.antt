@@ -4,7 +4,6 @@ use mathlib.Core.Path.{sym, _∙_}
 use Prim.Native.Nat.{_+_, _-_}
 use native.Mathlib.Nat.{mul-le-mul}
 use native.Mathlib.Omega.{arith}
-use borrow.Author.Needs.{needs}
 use Rattle.number.proofs.TrialDivision.{divisor-limit, Trial, trial-start, trial-next, trial-once, trial-twice, trial-square, trial-squarefree, quotient-below, second-quotient-below, divisor-below-bound, square-times-divisor-at-most, square-times-root-at-most}
 use Rattle.number.proofs.splitting.square_part.Statement.{statement}
 use Rattle.number.proofs.splitting.square_part.Tie as tie
@@ -65,10 +64,10 @@ loop-again-3 : tie.Need-loop-again-3 Inv-loop μ-loop
 loop-again-3 c = trial-twice (c .before .before .before .loop .inv) (c .before .before .loop-test .taken) (c .before .if1 .left) (c .if2 .left)
 
 is-square-requires : tie.Need-is-square-requires Inv-loop μ-loop
-is-square-requires c κs = search needs
+is-square-requires c κs = search
 
 root-requires : tie.Need-root-requires Inv-loop μ-loop
-root-requires c κs = search needs
+root-requires c κs = search
 
 mul-result : tie.Need-mul-result Inv-loop μ-loop
 mul-result c =
