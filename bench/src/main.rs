@@ -122,7 +122,7 @@ fn program(path: &str, file: &str) -> f64 {
 
 /// gp's seconds for the conics' matrices, its start taken off; none where it is not installed.
 fn gp(conics: &[[i64; 6]], folder: &str) -> Option<f64> {
-    Command::new("gp").arg("--version").stdout(Stdio::null()).status().ok()?;
+    Command::new("gp").arg("--version").stdout(Stdio::null()).stderr(Stdio::null()).status().ok()?;
     let matrices: Vec<String> = conics
         .iter()
         .map(|[a, b, c, d, e, f]| format!("[{},{b},{d};{b},{},{e};{d},{e},{}]", 2 * a, 2 * c, 2 * f))
