@@ -6,12 +6,12 @@ use Prim.Native.Nat.{ℕ, _+_}
 use lib.Dec.{T}
 use lib.IntN.{pos}
 use Rattle.number.proofs.Least.{true-of-T, not-true-of-false}
-use Rattle.conic.specs.Demand2.{NonDegenerate, HasPoint, PointExactly, RightPoint, OneSignEverywhere, SignExactly}
 use Rattle.conic.specs.Form.{Δ}
 use Rattle.conic.specs.Paper.{Verdict, point, none-by-sign, none-by-prime, refusal, inRange}
-use Rattle.conic.specs.Solve.{solveOf}
 use Rattle.conic.specs.declared.conic.Conic.{Conic}
-use Rattle.conic.proofs.Demand2.{pointExactly, signExactly}
+use Rattle.solve.specs.Demand2.{NonDegenerate, HasPoint, PointExactly, RightPoint, OneSignEverywhere, SignExactly}
+use Rattle.solve.specs.Solve.{solveOf}
+use Rattle.solve.proofs.Demand2.{pointExactly, signExactly}
 use Rattle.book.specs.Layout.{conicAt, pointAt}
 use Rattle.book.specs.Reader.{ReaderAnswer, with-point, with-none-by-sign, with-none-by-prime, degenerate, no-entry, contentOf, readerAnswer}
 use Rattle.book.specs.Theorems.{RightBody, right-point, right-sign, right-prime, right-degenerate, TrueOf, AcceptedIsTrue}

@@ -5,8 +5,8 @@ use lib.IntN.{pos}
 use lib.ListN.{length, getD}
 use lib.Seq.{ext-getD}
 use Rattle.conic.specs.Paper.{Verdict, point, none-by-sign, none-by-prime, refusal}
-use Rattle.conic.specs.Solve.{solveOf}
 use Rattle.conic.specs.declared.conic.Conic.{Conic}
+use Rattle.solve.specs.Solve.{solveOf}
 use Rattle.book.specs.Layout.{countOf}
 use Rattle.book.specs.Reader.{ReaderAnswer, with-point, with-none-by-sign, with-none-by-prime, degenerate, no-entry, readerAnswer}
 use Rattle.book.specs.Theorems.{withVerdict, WrittenIsRead, BookDeterminesList}

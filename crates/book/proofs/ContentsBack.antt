@@ -6,8 +6,8 @@ use Prim.Native.Nat.{ℕ, zero, suc, _+_, _*_, _≤_, _<_}
 use native.Mathlib.Nat.{add-zero}
 use native.Mathlib.Omega.{arith}
 use lib.ListN.{length, getD}
-use Rattle.conic.specs.Solve.{solveOf}
 use Rattle.conic.specs.declared.conic.Conic.{Conic}
+use Rattle.solve.specs.Solve.{solveOf}
 use Rattle.book.specs.Bytes.{bytes, numberAt}
 use Rattle.book.specs.Layout.{countLimit, bodyLength, kindOf, countOf, kindAt, offsetAt}
 use Rattle.book.specs.Reader.{bodiesEnd}

@@ -9,11 +9,9 @@ use borrow.Author.Needs.{sfits-of}
 use borrow.Author.Tests.{not-true, not-false}
 use mir.Syntax.{w64}
 use mir.Val.{toZ, ofZ}
-use Rattle.conic.specs.Direction.{isBase, fromBase}
+use Rattle.conic.specs.Base.{isBase, fromBase, Judgement, legal, refused, judged, judgedOf}
 use Rattle.conic.specs.Form.{G, Δ}
-use Rattle.conic.specs.Judged.{Judgement, legal, refused, judged, judgedOf}
-use Rattle.conic.specs.Paper.{inRange}
-use Rattle.conic.specs.Solve.{isZero}
+use Rattle.conic.specs.Paper.{inRange, isZero}
 use Rattle.conic.specs.declared.base.Judged.{Judged}
 use Rattle.conic.specs.declared.base.Judged.the-variants as Judged
 use Rattle.conic.specs.declared.conic.Conic.{Conic}

@@ -7,8 +7,8 @@ use native.Mathlib.Omega.{arith}
 use lib.ListN.{length, getD, take, drop}
 use lib.Seq.{sets, sets-eq, paste}
 use Rattle.conic.specs.Paper.{Verdict}
-use Rattle.conic.specs.Solve.{solveOf}
 use Rattle.conic.specs.declared.conic.Conic.{Conic}
+use Rattle.solve.specs.Solve.{solveOf}
 use Rattle.book.specs.Bytes.{bytes}
 use Rattle.book.specs.Layout.{bodyLength, kindOf, coefficients, added, conicAt}
 use Rattle.book.specs.Steps.{withConic}

@@ -5,8 +5,8 @@ use Prim.Native.Nat.{ℕ, _+_, _*_, _/_, _≤_}
 use native.Mathlib.Omega.{arith}
 use lib.ListN.{length, length-append}
 use Rattle.conic.specs.Paper.{Verdict, point, none-by-sign, none-by-prime, refusal}
-use Rattle.conic.specs.Solve.{solveOf}
 use Rattle.conic.specs.declared.conic.Conic.{Conic}
+use Rattle.solve.specs.Solve.{solveOf}
 use Rattle.book.specs.Bytes.{bytes}
 use Rattle.book.specs.Layout.{bodyLength, kindOf, coefficients, added, conicAt}
 use Rattle.book.specs.Writer.{entries, bodies, bookOf, conicsOf}

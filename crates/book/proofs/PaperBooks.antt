@@ -2,10 +2,10 @@
 use mathlib.Core.List.{List}
 use mathlib.Core.Path.{_≡_, refl, ap}
 use lib.ListN.{getD}
-use Rattle.conic.specs.Bench.{StarredExamples}
 use Rattle.conic.specs.Paper.{Verdict, none-by-sign}
-use Rattle.conic.specs.Solve.{solveOf}
-use Rattle.conic.proofs.Bench.{starredExamples}
+use Rattle.solve.specs.Bench.{StarredExamples}
+use Rattle.solve.specs.Solve.{solveOf}
+use Rattle.solve.proofs.Bench.{starredExamples}
 use Rattle.book.specs.Bytes.{bytes, unsigned}
 use Rattle.book.specs.Examples.{example, PaperBooks}
 use Rattle.book.specs.Layout.{coefficients}

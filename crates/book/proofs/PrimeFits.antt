@@ -10,15 +10,15 @@ use Rattle.whole.proofs.Size.{natAbs-positive}
 use Rattle.number.specs.Divides.{_∣ℤ_}
 use Rattle.number.proofs.Divides.{∣ℤ-times-right, divisor-size-bound}
 use Rattle.number.proofs.Prime.{prime-divides-product}
-use Rattle.conic.specs.Demand2.{NonDegenerate, PrimeIsTrue, SquareDiscriminant, SquareHasPoint}
 use Rattle.conic.specs.Form.{D, Δ}
-use Rattle.conic.specs.Level.{levelOf}
 use Rattle.conic.specs.Paper.{none-by-prime}
-use Rattle.conic.specs.Solve.{solveOf}
 use Rattle.conic.specs.declared.conic.Conic.{Conic}
-use Rattle.conic.proofs.Demand2.{primeIsTrue, squareHasPoint}
-use Rattle.conic.proofs.Levelling.{levellable, levelled-by-own, D-is, aΔ-is}
 use Rattle.conic.proofs.Sizes.{in-limit, D-size, aΔ-size}
+use Rattle.solve.specs.Demand2.{NonDegenerate, PrimeIsTrue, SquareDiscriminant, SquareHasPoint}
+use Rattle.solve.specs.Level.{levelOf}
+use Rattle.solve.specs.Solve.{solveOf}
+use Rattle.solve.proofs.Demand2.{primeIsTrue, squareHasPoint}
+use Rattle.solve.proofs.Levelling.{levellable, levelled-by-own, D-is, aΔ-is}
 use Rattle.book.proofs.Verdicts.{isRefusal, answered}
 
 not-square : (h : Conic) (l : ℕ) → solveOf h ≡ none-by-prime l → NonDegenerate h → ¬ SquareDiscriminant h

@@ -6,8 +6,8 @@ use Prim.Native.Nat.{ℕ}
 use Rattle.conic.specs.Paper.{number}
 use Rattle.conic.specs.declared.paper.Refusal.{Refusal}
 use Rattle.conic.specs.declared.paper.Refusal.the-variants as Refusal
-use Rattle.conic.specs.declared.solve.Reason.the-variants as Reason
 use Rattle.conic.proofs.Promise.{same-refusal}
+use Rattle.solve.specs.declared.Reason.the-variants as Reason
 use Rattle.book.specs.Reader.{ReaderAnswer, with-point, with-none-by-sign, with-none-by-prime, degenerate, no-entry, entry, ReaderPromise}
 use Rattle.book.specs.Writer.{written, WriterPromise}
 use Rattle.book.specs.declared.Entry.{Entry}

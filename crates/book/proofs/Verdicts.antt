@@ -5,19 +5,19 @@ use mathlib.Core.Logic.{⊎-elim}
 use mathlib.Core.Path.{_≡_, refl, ap, _∙_}
 use lib.IntN.{pos, negℤ}
 use Rattle.number.proofs.Least.{T-of-true, true-or-false, not-true-of-false}
-use Rattle.conic.specs.Demand2.{NonDegenerate, PointIsRight}
 use Rattle.legendre.specs.Outcome.{outcomeOf}
 use Rattle.legendre.specs.declared.outcome.Outcome.{Outcome}
 use Rattle.legendre.specs.declared.outcome.Outcome.the-variants as Outcome
 use Rattle.conic.specs.Form.{D, Δ}
-use Rattle.conic.specs.Level.{levelOf}
-use Rattle.conic.specs.Paper.{Verdict, point, none-by-sign, none-by-prime, refusal, inRange, pointLimit}
+use Rattle.conic.specs.Paper.{Verdict, point, none-by-sign, none-by-prime, refusal, inRange, pointLimit, isZero}
 use Rattle.conic.specs.Sizes.{PointWithin}
-use Rattle.conic.specs.Solve.{isZero, isSquareNumber, fromInfinity, outcomeCarried, solveLevelled, solveNonDegenerate, solveOf}
 use Rattle.conic.specs.declared.conic.Conic.{Conic}
 use Rattle.conic.specs.declared.point.Point.{Point}
-use Rattle.conic.proofs.Demand2.{pointIsRight}
 use Rattle.conic.proofs.Tests.{isZero-iff}
+use Rattle.solve.specs.Demand2.{NonDegenerate, PointIsRight}
+use Rattle.solve.specs.Level.{levelOf}
+use Rattle.solve.specs.Solve.{isSquareNumber, fromInfinity, outcomeCarried, solveLevelled, solveNonDegenerate, solveOf}
+use Rattle.solve.proofs.Demand2.{pointIsRight}
 
 abbrev pub isRefusal : Verdict → Bool
 isRefusal (point p) = false

@@ -8,12 +8,12 @@ use native.Mathlib.Omega.{arith}
 use lib.Dec.{T}
 use lib.ListN.{length, getD, drop}
 use Rattle.number.proofs.Least.{true-of-T, T-of-true}
-use Rattle.conic.specs.Demand2.{PointIsRight}
 use Rattle.conic.specs.Paper.{Verdict, point, none-by-sign, none-by-prime, refusal, inRange}
-use Rattle.conic.specs.Solve.{solveOf}
 use Rattle.conic.specs.declared.conic.Conic.{Conic}
-use Rattle.conic.proofs.Demand2.{pointIsRight}
 use Rattle.conic.proofs.Sizes.{in-limit}
+use Rattle.solve.specs.Demand2.{PointIsRight}
+use Rattle.solve.specs.Solve.{solveOf}
+use Rattle.solve.proofs.Demand2.{pointIsRight}
 use Rattle.book.specs.Layout.{countLimit, kindOf, coefficients, added, countOf, conicAt}
 use Rattle.book.specs.Reader.{with-point, with-none-by-sign, with-none-by-prime, degenerate, bodiesEnd, everyBelow, layoutHolds, bodyHolds, contentOf}
 use Rattle.book.specs.Theorems.{RightBody, right-point, right-sign, right-prime, right-degenerate, withVerdict, WrittenIsRead}

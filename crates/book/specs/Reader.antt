@@ -6,14 +6,14 @@ use mathlib.Core.Path.{_≡_}
 use Prim.Native.Nat.{ℕ, zero, suc, _+_, _*_}
 use lib.Dec.{eqb, leb, ltb}
 use lib.ListN.{length, getD}
-use Rattle.conic.specs.Direction.{isBase}
+use Rattle.conic.specs.Base.{isBase}
 use Rattle.conic.specs.Form.{G, Δ}
-use Rattle.conic.specs.Paper.{Verdict, point, none-by-sign, none-by-prime, refusal, inRange, number}
-use Rattle.conic.specs.Solve.{solveOf, isZero}
+use Rattle.conic.specs.Paper.{Verdict, point, none-by-sign, none-by-prime, refusal, inRange, number, isZero}
 use Rattle.conic.specs.declared.conic.Conic.{Conic}
 use Rattle.conic.specs.declared.point.Point.{Point}
-use Rattle.conic.specs.declared.solve.Reason.{Reason}
-use Rattle.conic.specs.declared.solve.Reason.the-variants as Reason
+use Rattle.solve.specs.Solve.{solveOf}
+use Rattle.solve.specs.declared.Reason.{Reason}
+use Rattle.solve.specs.declared.Reason.the-variants as Reason
 use Rattle.book.specs.Bytes.{numberAt}
 use Rattle.book.specs.Layout.{countLimit, bodyLength, countOf, kindAt, offsetAt, conicAt, pointAt}
 use Rattle.book.specs.declared.Entry.{Entry}

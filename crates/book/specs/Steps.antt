@@ -6,9 +6,9 @@ use lib.ListN.{length, drop}
 use lib.Seq.{sets}
 use Rattle.conic.specs.Paper.{Verdict, point, pointLimit}
 use Rattle.conic.specs.Sizes.{PointWithin}
-use Rattle.conic.specs.Solve.{solveOf}
 use Rattle.conic.specs.declared.conic.Conic.{Conic}
 use Rattle.conic.specs.declared.point.Point.{Point}
+use Rattle.solve.specs.Solve.{solveOf}
 use Rattle.book.specs.Bytes.{bytes}
 use Rattle.book.specs.Layout.{countLimit, bodyLength, kindOf, coefficients, added, countOf}
 use Rattle.book.specs.Writer.{bookOf}

@@ -7,13 +7,13 @@ use Prim.Native.Nat.{ℕ, _+_, _*_, _<_, _≤_}
 use lib.Dec.{T}
 use lib.IntN.{pos}
 use lib.ListN.{length, getD}
-use Rattle.conic.specs.Demand2.{NonDegenerate, HasPoint, RightPoint, OneSignEverywhere}
-use Rattle.conic.specs.Direction.{isBase}
+use Rattle.conic.specs.Base.{isBase}
 use Rattle.conic.specs.Form.{G, Δ}
 use Rattle.conic.specs.Paper.{Verdict, point, none-by-sign, none-by-prime, refusal, inRange}
-use Rattle.conic.specs.Solve.{solveOf}
 use Rattle.conic.specs.declared.conic.Conic.{Conic}
 use Rattle.conic.specs.declared.point.Point.{Point}
+use Rattle.solve.specs.Demand2.{NonDegenerate, HasPoint, RightPoint, OneSignEverywhere}
+use Rattle.solve.specs.Solve.{solveOf}
 use Rattle.book.specs.Bytes.{numberAt}
 use Rattle.book.specs.Layout.{countLimit, countOf, kindAt, offsetAt, conicAt, pointAt}
 use Rattle.book.specs.Reader.{ReaderAnswer, with-point, with-none-by-sign, with-none-by-prime, degenerate, no-entry, readerAnswer, bodiesEnd}

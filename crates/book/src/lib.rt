@@ -2,7 +2,7 @@
 use conic::conic::Conic;
 use conic::paper::Refusal;
 use conic::point::Point;
-use conic::solve::Reason;
+use solve::Reason;
 
 mod bytes;
 mod layout;

@@ -10,8 +10,7 @@ use mir.Val.{SFits, toZ, ofZ}
 use mir.Facts.{toZ-ofZ}
 use borrow.Author.Needs.{sfits-of}
 use Rattle.number.specs.Gcd.{gcdOf}
-use Rattle.conic.specs.Paper.{within}
-use Rattle.conic.specs.Solve.{isZero}
+use Rattle.conic.specs.Paper.{within, isZero}
 
 pub passed : {A : Type 0} (f : ℤ → A) {n : ℤ} {r : A} → SFits w64 n → r ≡ f (toZ w64 (ofZ w64 n)) → r ≡ f n
 passed f h e = e ∙ ap f (toZ-ofZ h)

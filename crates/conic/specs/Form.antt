@@ -1,4 +1,5 @@
--- A conic's polynomial G over all whole numbers, its three partial derivatives, L, and the paper's D, Δ and k. Assumes nothing.
+-- A conic's polynomial G over all whole numbers, its three partial derivatives, L, the second point of a line, and the paper's D, Δ
+-- and k. Assumes nothing.
 use lib.IntN.{ℤ, pos, _+ℤ_, _-ℤ_, _*ℤ_}
 use Rattle.conic.specs.declared.point.Point.{Point}
 use Rattle.conic.specs.declared.conic.Conic.{Conic}
@@ -38,3 +39,12 @@ unfoldable pub Δ : Conic → ℤ
 -- k = 2ae − bd
 unfoldable pub k : Conic → ℤ
 k h = pos 2 *ℤ h .a *ℤ h .e -ℤ h .b *ℤ h .d
+
+-- G(T)·S − L(S, T)·T
+unfoldable pub drawn : Conic → Point → Point → Point
+drawn h s t =
+    record {
+      x = G h t *ℤ s .x -ℤ L h s t *ℤ t .x;
+      y = G h t *ℤ s .y -ℤ L h s t *ℤ t .y;
+      z = G h t *ℤ s .z -ℤ L h s t *ℤ t .z;
+    }

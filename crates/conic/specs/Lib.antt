@@ -1,11 +1,5 @@
 pub mod Form
 pub mod Paper
 pub mod Normal
-pub mod Level
-pub mod Solve
-pub mod Direction
-pub mod Demand2
-pub mod Demand3
+pub mod Base
 pub mod Sizes
-pub mod Bench
-pub mod Judged

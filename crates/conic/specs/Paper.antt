@@ -1,23 +1,13 @@
--- The paper's limits, its refusal numbers, and its answers: what each case of an answer stands for in the paper. Assumes nothing.
+-- The paper's limits, its refusal numbers, and what an answer about a conic says. Assumes nothing.
 use mathlib.Core.Bool.{Bool, _&&_}
 use Prim.Native.Nat.{ℕ}
-use lib.Dec.{leb}
+use lib.Dec.{leb, eqb}
 use lib.IntN.{ℤ, natAbs}
 use Rattle.conic.specs.declared.paper.Refusal.{Refusal}
 use Rattle.conic.specs.declared.paper.Refusal.the-variants as Refusal
 use Rattle.conic.specs.declared.point.Point.{Point}
 use Rattle.conic.specs.declared.point.Direction.{Direction}
 use Rattle.conic.specs.declared.conic.Conic.{Conic}
-use Rattle.conic.specs.declared.solve.Answer.{Answer}
-use Rattle.conic.specs.declared.solve.Answer.the-variants as Answer
-use Rattle.conic.specs.declared.solve.Reason.{Reason}
-use Rattle.conic.specs.declared.solve.Reason.the-variants as Reason
-use Rattle.conic.specs.declared.solve.Solved.{Solved}
-use Rattle.conic.specs.declared.solve.Solved.the-variants as Solved
-use Rattle.conic.specs.declared.direction.Reached.{Reached}
-use Rattle.conic.specs.declared.direction.Reached.the-variants as Reached
-use Rattle.conic.specs.declared.direction.Directed.{Directed}
-use Rattle.conic.specs.declared.direction.Directed.the-variants as Directed
 
 -- Numbers that limit
 
@@ -32,6 +22,9 @@ directionLimit = 10_000
 
 unfoldable pub within : ℕ → ℤ → Bool
 within n m = leb (natAbs m) n
+
+unfoldable pub isZero : ℤ → Bool
+isZero n = eqb (natAbs n) 0
 
 unfoldable pub inRange : Conic → Bool
 inRange h =
@@ -70,28 +63,3 @@ pub data Verdict : Type 0 where
   none-by-sign : Verdict
   none-by-prime : ℕ → Verdict
   refusal : ℕ → Verdict
-
--- a direction, or a refusal by its number
-pub data Bearing : Type 0 where
-  direction : Direction → Bearing
-  no-direction : ℕ → Bearing
-
-abbrev pub reasonGiven : Reason → Verdict
-reasonGiven Reason.Sign = none-by-sign
-reasonGiven (Reason.Prime l) = none-by-prime l
-
-abbrev pub answered : Answer → Verdict
-answered (Answer.Point p) = point p
-answered (Answer.None r) = reasonGiven r
-
-abbrev pub solved : Solved → Verdict
-solved (Solved.Answer a) = answered a
-solved (Solved.Refused r) = refusal (number r)
-
-abbrev pub reached : Reached → Verdict
-reached (Reached.Point p) = point p
-reached (Reached.Refused r) = refusal (number r)
-
-abbrev pub directed : Directed → Bearing
-directed (Directed.Direction t) = direction t
-directed (Directed.Refused r) = no-direction (number r)

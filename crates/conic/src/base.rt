@@ -4,7 +4,7 @@ use crate::paper::Refusal;
 use crate::point::Point;
 use crate::size;
 ghost use mathlib.Core.Path.{_≡_};
-ghost use Rattle.conic.specs.Judged.{judged, judgedOf};
+ghost use Rattle.conic.specs.Base.{judged, judgedOf};
 
 // Whether a conic and a base are what both direction entries ask for.
 pub enum Judged {

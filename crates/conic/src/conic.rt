@@ -5,8 +5,7 @@ use crate::size;
 ghost use mathlib.Core.Path.{_≡_};
 ghost use lib.IntN.{_*ℤ_, _+ℤ_};
 ghost use Rattle.conic.specs.Paper.{inRange};
-ghost use Rattle.conic.specs.Form.{G, Gx, Gy, Gz, L, D, Δ, k};
-ghost use Rattle.conic.specs.Solve.{drawn};
+ghost use Rattle.conic.specs.Form.{G, Gx, Gy, Gz, L, D, Δ, k, drawn};
 ghost use Rattle.conic.specs.Sizes.{ProductsFit, InLimit, ConicAt, ConicAlong};
 
 pub struct Conic {

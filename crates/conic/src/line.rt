@@ -4,7 +4,7 @@ use crate::point::Point;
 ghost use mathlib.Core.Path.{_≡_};
 ghost use Rattle.conic.specs.Normal.{normal};
 ghost use Rattle.conic.specs.Sizes.{ConicAlong};
-ghost use Rattle.conic.specs.Solve.{drawn};
+ghost use Rattle.conic.specs.Form.{drawn};
 
 // Where the line from S along T meets the conic again: 49 steps and a normal form.
 pub fn other_point(h: Conic, s: Point, t: Point) -> Point

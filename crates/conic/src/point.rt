@@ -6,7 +6,7 @@ use number::euclid::gcd;
 ghost use mathlib.Core.Path.{_≡_};
 ghost use Rattle.conic.specs.Normal.{commonFactor, leading, signed, over, largest, normalWithin, normalDirectionWithin};
 ghost use Rattle.conic.specs.Paper.{pointInLimit, directionInLimit};
-ghost use Rattle.conic.specs.Direction.{isNormal, isBase, isTarget, isDirection};
+ghost use Rattle.conic.specs.Base.{isNormal, isBase, isTarget, isDirection};
 ghost use Rattle.conic.specs.Sizes.{PointWithin};
 
 // A point: three whole numbers, up to a common factor.
@@ -25,12 +25,6 @@ pub struct Direction {
 impl Point {
     // The triple that is no point.
     pub const ZERO: Point = Point { x: 0, y: 0, z: 0 };
-
-    pub const FIRST_LINE: Point = Point { x: 0, y: 0, z: 1 };
-
-    pub const SECOND_LINE: Point = Point { x: 1, y: 0, z: 1 };
-
-    pub const THIRD_LINE: Point = Point { x: 0, y: 1, z: 1 };
 
     // The normal form of (x, y, z). Some thirty steps and two greatest common divisors.
     pub fn normal(x: i64, y: i64, z: i64) -> Point

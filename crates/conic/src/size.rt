@@ -1,9 +1,8 @@
 // Tests of a number's size, for every number.
 ghost use mathlib.Core.Path.{_≡_};
 ghost use mathlib.Core.Bool.{_&&_};
-ghost use Rattle.conic.specs.Paper.{within};
+ghost use Rattle.conic.specs.Paper.{within, isZero};
 ghost use Rattle.conic.specs.Normal.{largest};
-ghost use Rattle.conic.specs.Solve.{isZero};
 
 // Whether n is at most the limit in size: two comparisons, and no absolute value, which -2⁶³ has not.
 pub fn within(n: i64, limit: u32) -> bool

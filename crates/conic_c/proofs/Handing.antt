@@ -5,19 +5,20 @@ use mathlib.Core.Path.{_≡_, refl}
 use Prim.Native.Nat.{ℕ, _≤_}
 use lib.Dec.{lit≤}
 use lib.IntN.{ℤ}
-use Rattle.conic.specs.Direction.{PointPromise, DirectionPromise}
-use Rattle.conic.specs.Paper.{number, reasonGiven, solved, reached, directed}
-use Rattle.conic.specs.Solve.{SolvePromise}
+use Rattle.conic.specs.Paper.{number}
 use Rattle.conic.specs.declared.conic.Conic.{Conic}
-use Rattle.conic.specs.declared.direction.Directed.{Directed}
-use Rattle.conic.specs.declared.direction.Reached.{Reached}
 use Rattle.conic.specs.declared.paper.Refusal.{Refusal}
 use Rattle.conic.specs.declared.paper.Refusal.the-variants as Refusal
 use Rattle.conic.specs.declared.point.Direction.{Direction}
 use Rattle.conic.specs.declared.point.Point.{Point}
-use Rattle.conic.specs.declared.solve.Reason.{Reason}
-use Rattle.conic.specs.declared.solve.Reason.the-variants as Reason
-use Rattle.conic.specs.declared.solve.Solved.{Solved}
+use Rattle.solve.specs.Answer.{reasonGiven, solved}
+use Rattle.solve.specs.Solve.{SolvePromise}
+use Rattle.solve.specs.declared.Reason.{Reason}
+use Rattle.solve.specs.declared.Reason.the-variants as Reason
+use Rattle.solve.specs.declared.Solved.{Solved}
+use Rattle.direction.specs.Direction.{PointPromise, DirectionPromise, reached, directed}
+use Rattle.direction.specs.declared.Directed.{Directed}
+use Rattle.direction.specs.declared.Reached.{Reached}
 use Rattle.row.specs.Row.{RowPromise, written as rowWritten}
 use Rattle.row.specs.declared.Written.{Written as RowWritten}
 use Rattle.book.specs.Reader.{ReaderPromise, storedReason, entry}

@@ -4,11 +4,13 @@ use mathlib.Core.List.{List, [], _∷_}
 use mathlib.Core.Path.{_≡_}
 use Prim.Native.Nat.{ℕ}
 use lib.IntN.{ℤ}
-use Rattle.conic.specs.Paper.{Verdict, point, none-by-sign, none-by-prime, refusal, reasonGiven, Bearing, direction, no-direction}
+use Rattle.conic.specs.Paper.{Verdict, point, none-by-sign, none-by-prime, refusal}
 use Rattle.conic.specs.declared.conic.Conic.{Conic}
 use Rattle.conic.specs.declared.point.Point.{Point}
 use Rattle.conic.specs.declared.point.Direction.{Direction}
-use Rattle.conic.specs.declared.solve.Reason.{Reason}
+use Rattle.solve.specs.Answer.{reasonGiven}
+use Rattle.solve.specs.declared.Reason.{Reason}
+use Rattle.direction.specs.Direction.{Bearing, direction, no-direction}
 use Rattle.book.specs.Reader.{ReaderAnswer, with-point, with-none-by-sign, with-none-by-prime, degenerate, no-entry}
 use Rattle.conic_c.specs.Codes.{code, to-solve, to-book-read}
 

@@ -4,11 +4,11 @@ use mathlib.Core.List.{List}
 use mathlib.Core.Path.{_≡_}
 use Prim.Native.Nat.{ℕ}
 use lib.IntN.{ℤ}
-use Rattle.conic.specs.Direction.{pointOf}
 use Rattle.conic.specs.Paper.{none-by-sign, none-by-prime}
 use Rattle.conic.specs.declared.conic.Conic.{Conic}
 use Rattle.conic.specs.declared.point.Direction.{Direction}
 use Rattle.conic.specs.declared.point.Point.{Point}
+use Rattle.direction.specs.Direction.{pointOf}
 use Rattle.conic_c.specs.Promises.{ConicSolve, ConicPoint, ConicDirection, ConicRow, ConicBookWrite, ConicBookRead}
 
 unfoldable pub ConicSolveIsOne : Type 0

@@ -4,13 +4,11 @@ use book::Entry;
 use book::reader;
 use book::writer;
 use conic::conic::Conic;
-use conic::direction;
-use conic::direction::Directed;
-use conic::direction::Reached;
 use conic::point::Direction;
 use conic::point::Point;
-use conic::solve;
-use conic::solve::Solved;
+use direction::Directed;
+use direction::Reached;
+use solve::Solved;
 ghost use Rattle.conic_c.specs.Promises.{ConicSolve, ConicPoint, ConicDirection, ConicRow, ConicBookWrite, ConicBookRead};
 
 mod place;

@@ -4,9 +4,8 @@ use crate::print::print_answer;
 use crate::print::print_conic;
 use crate::print::print_refusal;
 use conic::conic::Conic;
-use conic::solve;
-use conic::solve::Solved;
 use libc::STDOUT_FILENO;
+use solve::Solved;
 ghost use Prim.Native.Nat.{_≤_};
 
 fn conic_row(a: i64, b: i64, c: i64, d: i64, e: i64, f: i64) {

@@ -3,9 +3,9 @@ use conic::conic::Conic;
 use conic::paper::Refusal;
 use conic::point::Direction;
 use conic::point::Point;
-use conic::solve::Answer;
-use conic::solve::Reason;
 use libc::STDOUT_FILENO;
+use solve::Answer;
+use solve::Reason;
 
 pub fn print_unsigned(n: u64) {
     io::write_all(STDOUT_FILENO, b" ");

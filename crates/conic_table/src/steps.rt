@@ -5,11 +5,10 @@ use crate::print::print_direction;
 use crate::print::print_point;
 use crate::print::print_refusal;
 use conic::conic::Conic;
-use conic::direction;
-use conic::direction::Directed;
-use conic::direction::Reached;
 use conic::point::Direction;
 use conic::point::Point;
+use direction::Directed;
+use direction::Reached;
 use libc::STDOUT_FILENO;
 
 const CIRCLE: Conic = Conic {

@@ -104,7 +104,7 @@ signExactly p g q = (go (way p g q), outcome-sign)
 
 pub primeIsLeastFailing : PrimeIsLeastFailing
 unfolding PrimeIsLeastFailing
-primeIsLeastFailing p g q l levelled e = go (way p g q)
+primeIsLeastFailing p g q l e = go (way p g q)
   where
     same : {m : ℕ} → outcomeOf p g q ≡ Prime m → m ≡ l
     same f = cc

@@ -1,4 +1,4 @@
--- What the levelled equation's answer means, as statements about all levelled p, g, q. Assumes nothing.
+-- What the levelled equation's answer means, as statements about all whole p, g, q. Assumes nothing.
 use mathlib.Core.Path.{_≡_}
 use mathlib.Core.Logic.{_⊎_, _↔_}
 use Prim.Native.Nat.{ℕ, _<_}
@@ -34,7 +34,7 @@ pub record LeastFailing (p g q : ℤ) (l : ℕ) : Type 0 where
   pub none-smaller : (m : ℕ) → m < l → Number.Prime m → ConditionAt m p g q
 
 unfoldable pub PrimeIsLeastFailing : Type 0
-PrimeIsLeastFailing = (p g q : ℤ) (l : ℕ) → Levelled p g q → outcomeOf p g q ≡ Prime l → LeastFailing p g q l
+PrimeIsLeastFailing = (p g q : ℤ) (l : ℕ) → outcomeOf p g q ≡ Prime l → LeastFailing p g q l
 
 unfoldable pub TwoNeverFails : Type 0
 TwoNeverFails = (p g q : ℤ) → ConditionAt 2 p g q

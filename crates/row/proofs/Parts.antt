@@ -19,8 +19,7 @@ use Rattle.row.specs.declared.reader.Place.{Place}
 use Rattle.row.specs.declared.reader.Reader.{Reader}
 use Rattle.row.specs.declared.reader.Reader.the-variants as Reader
 use Rattle.row.proofs.Cases.{by-test}
-use Rattle.row.proofs.RestOfNumber.{signOf, moreDigits, numberFrom, only-digits, no-number, ended, not-begun, number-begins}
-use Rattle.row.proofs.RestOfNumber.{not-a-digit, seven-digits, one-digit}
+use Rattle.row.proofs.RestOfNumber.{signOf, moreDigits, numberFrom, only-digits, no-number, ended, not-begun, number-begins, not-a-digit, seven-digits, one-digit}
 use Rattle.row.proofs.Steps.{legal-after}
 
 -- ---- what a place and the rest of the row make

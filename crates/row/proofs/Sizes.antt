@@ -18,15 +18,15 @@ use Rattle.number.proofs.Gcd.{zero-gcd, gcd-divides-left}
 use Rattle.legendre.specs.Outcome.{isOneSign, leastFailing, primeLimit, outcomeOf, chosen}
 use Rattle.legendre.specs.declared.outcome.Outcome.{Outcome}
 use Rattle.legendre.specs.declared.outcome.Outcome.the-variants.{Sign, Prime, Solution}
-use Rattle.conic.specs.Demand2.{NonDegenerate, RightPoint, PointIsRight}
 use Rattle.conic.specs.Form.{D, Δ}
-use Rattle.conic.specs.Level.{levelFrom, levelOf, carriedBack}
-use Rattle.conic.specs.Paper.{Verdict, point, none-by-sign, none-by-prime, refusal, pointLimit, inRange}
-use Rattle.conic.specs.Solve.{isZero, isSquareNumber, fromInfinity, outcomeCarried, solveLevelled, solveNonDegenerate, solveOf}
+use Rattle.conic.specs.Paper.{Verdict, point, none-by-sign, none-by-prime, refusal, pointLimit, inRange, isZero}
 use Rattle.conic.specs.declared.conic.Conic.{Conic}
 use Rattle.conic.specs.declared.point.Point.{Point}
-use Rattle.conic.proofs.Demand2.{pointIsRight}
 use Rattle.conic.proofs.Sizes.{limit-D, limit-aΔ, in-limit, D-size, aΔ-size}
+use Rattle.solve.specs.Demand2.{NonDegenerate, RightPoint, PointIsRight}
+use Rattle.solve.specs.Level.{levelFrom, levelOf, carriedBack}
+use Rattle.solve.specs.Solve.{isSquareNumber, fromInfinity, outcomeCarried, solveLevelled, solveNonDegenerate, solveOf}
+use Rattle.solve.proofs.Demand2.{pointIsRight}
 use Rattle.row.specs.Reading.{readRow}
 use Rattle.row.specs.Writing.{decimal, signedDecimal, rowText}
 use Rattle.row.specs.Row.{verdictOn, rowOf, bufferLimit}

@@ -8,12 +8,12 @@ use native.Mathlib.Numerals.{add-one}
 use native.Mathlib.Omega.{arith}
 use lib.Dec.{T, eqb, leb, leb→le, lit<}
 use borrow.Author.Tests.{leb-true, leb-false}
+use Rattle.conic.specs.declared.conic.Conic.{Conic}
 use Rattle.row.specs.Reading.{space, minus, digitZero, digitNine, isDigit}
 use Rattle.row.specs.Steps.{Legal, LegalReader, fresh, current, pushed, afterSpace, afterMinus, afterDigit, stepOf, readerAfter}
 use Rattle.row.specs.declared.reader.Place.{Place}
 use Rattle.row.specs.declared.reader.Reader.{Reader}
 use Rattle.row.specs.declared.reader.Reader.the-variants as Reader
-use Rattle.conic.specs.declared.conic.Conic.{Conic}
 use Rattle.row.proofs.Cases.{by-picked}
 
 pub record Digit (b : ℕ) : Type 0 where

@@ -8,8 +8,8 @@ use Prim.Native.Nat.{ℕ}
 use lib.Dec.{ltb}
 use lib.ListN.{length, drop}
 use Rattle.conic.specs.Paper.{Verdict, refusal, number}
-use Rattle.conic.specs.Solve.{solveOf}
 use Rattle.conic.specs.declared.conic.Conic.{Conic}
+use Rattle.solve.specs.Solve.{solveOf}
 use Rattle.row.specs.Reading.{readRow}
 use Rattle.row.specs.Writing.{rowText}
 use Rattle.row.specs.declared.Written.{Written}

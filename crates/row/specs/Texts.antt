@@ -2,10 +2,10 @@
 use mathlib.Core.List.{List, []}
 use Prim.Native.Nat.{ℕ}
 use Rattle.conic.specs.Paper.{point, refusal, number}
-use Rattle.conic.specs.declared.solve.Answer.{Answer}
-use Rattle.conic.specs.declared.solve.Answer.the-variants as Answer
-use Rattle.conic.specs.declared.solve.Solved.{Solved}
-use Rattle.conic.specs.declared.solve.Solved.the-variants as Solved
+use Rattle.solve.specs.declared.Answer.{Answer}
+use Rattle.solve.specs.declared.Answer.the-variants as Answer
+use Rattle.solve.specs.declared.Solved.{Solved}
+use Rattle.solve.specs.declared.Solved.the-variants as Solved
 use Rattle.row.specs.Writing.{rowText}
 
 abbrev pub refusalText : Solved → List ℕ

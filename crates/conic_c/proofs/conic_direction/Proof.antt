@@ -3,7 +3,7 @@ use mathlib.Core.Path.{refl}
 use mir.Facts.{toZ-ofZ}
 use mir.Syntax.{w64}
 use borrow.Author.Needs.{needs}
-use Rattle.conic.specs.Direction.{DirectionPromise}
+use Rattle.direction.specs.Direction.{DirectionPromise}
 use Rattle.conic_c.proofs.Handing.{direction-handed}
 use Rattle.conic_c.proofs.conic_direction.Statement.{statement}
 use Rattle.conic_c.proofs.conic_direction.Tie as tie

@@ -3,7 +3,7 @@ use mathlib.Core.Path.{refl}
 use mir.Facts.{toZ-ofZ}
 use mir.Syntax.{w64}
 use borrow.Author.Needs.{needs}
-use Rattle.conic.specs.Direction.{PointPromise}
+use Rattle.direction.specs.Direction.{PointPromise}
 use Rattle.conic_c.proofs.Handing.{point-handed}
 use Rattle.conic_c.proofs.conic_point.Statement.{statement}
 use Rattle.conic_c.proofs.conic_point.Tie as tie

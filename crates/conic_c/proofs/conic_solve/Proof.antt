@@ -3,7 +3,7 @@ use mathlib.Core.Path.{refl}
 use mir.Facts.{toZ-ofZ}
 use mir.Syntax.{w64}
 use borrow.Author.Needs.{needs}
-use Rattle.conic.specs.Solve.{SolvePromise}
+use Rattle.solve.specs.Solve.{SolvePromise}
 use Rattle.conic_c.proofs.Handing.{solve-handed}
 use Rattle.conic_c.proofs.conic_solve.Statement.{statement}
 use Rattle.conic_c.proofs.conic_solve.Tie as tie

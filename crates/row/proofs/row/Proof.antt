@@ -8,7 +8,7 @@ use lib.ListN.{length, drop}
 use lib.Seq.{sets}
 use borrow.Author.Needs.{needs}
 use borrow.Author.Tests.{lt-ltb, le-ltb}
-use Rattle.conic.specs.Paper.{solved}
+use Rattle.solve.specs.Answer.{solved}
 use Rattle.row.specs.Writing.{rowText}
 use Rattle.row.specs.Row.{rowOf, tooShort, row-length}
 use Rattle.row.specs.Theorems.{RowsFit}

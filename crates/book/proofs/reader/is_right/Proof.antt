@@ -5,8 +5,7 @@ use native.Mathlib.Omega.{arith}
 use lib.ListN.{length}
 use borrow.Author.Needs.{needs}
 use Rattle.conic.specs.Form.{Δ}
-use Rattle.conic.specs.Paper.{inRange}
-use Rattle.conic.specs.Solve.{isZero}
+use Rattle.conic.specs.Paper.{inRange, isZero}
 use Rattle.conic.specs.declared.conic.Conic.{Conic}
 use Rattle.book.specs.Reader.{isRightPoint, isRight}
 use Rattle.book.proofs.BodyKinds.{room, right-of-kind, no-such-kind}

@@ -1,7 +1,7 @@
 -- `book::reader::is_right_prime` meets its contract. Assumes nothing.
 use mathlib.Core.Path.{ap, ap₂, _∙_}
 use borrow.Author.Needs.{needs}
-use Rattle.conic.specs.Solve.{solveOf}
+use Rattle.solve.specs.Solve.{solveOf}
 use Rattle.book.specs.Reader.{isNoneByPrime}
 use Rattle.book.proofs.reader.is_right_prime.Statement.{statement}
 use Rattle.book.proofs.reader.is_right_prime.Tie as tie

@@ -1,7 +1,7 @@
 -- `book::reader::is_right_sign` meets its contract. Assumes nothing.
 use mathlib.Core.Path.{ap, _∙_}
 use borrow.Author.Needs.{needs}
-use Rattle.conic.specs.Solve.{solveOf}
+use Rattle.solve.specs.Solve.{solveOf}
 use Rattle.book.specs.Reader.{isNoneBySign}
 use Rattle.book.proofs.reader.is_right_sign.Statement.{statement}
 use Rattle.book.proofs.reader.is_right_sign.Tie as tie

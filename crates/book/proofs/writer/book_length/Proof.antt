@@ -4,8 +4,8 @@ use Prim.Native.Nat.{_+_, _-_, _%_, _≤_}
 use native.Mathlib.Omega.{arith}
 use lib.ListN.{length}
 use borrow.Author.Needs.{needs}
-use Rattle.conic.specs.Paper.{solved}
-use Rattle.conic.specs.Solve.{solveOf}
+use Rattle.solve.specs.Answer.{solved}
+use Rattle.solve.specs.Solve.{solveOf}
 use Rattle.book.specs.Layout.{bodyLength, kindOf, conicAt}
 use Rattle.book.specs.Writer.{bodies, bookOf, conicsOf}
 use Rattle.book.proofs.BodyKinds.{length-at-most, kind-at-most}

@@ -1,7 +1,7 @@
 -- `book::writer::put_body` meets its contract: the list's bytes are the coefficients. Assumes nothing.
 use borrow.Author.Needs.{needs}
 use native.Mathlib.Omega.{arith}
-use Rattle.conic.specs.Paper.{solved}
+use Rattle.solve.specs.Answer.{solved}
 use Rattle.book.proofs.Laid.{body-stored}
 use Rattle.book.proofs.writer.put_body.Statement.{statement}
 use Rattle.book.proofs.writer.put_body.Tie as tie

@@ -5,8 +5,9 @@ use Prim.Native.Nat.{_+_, _≤_}
 use native.Mathlib.Omega.{arith}
 use lib.ListN.{length}
 use borrow.Author.Needs.{needs}
-use Rattle.conic.specs.Paper.{Verdict, solved}
-use Rattle.conic.specs.Solve.{solveOf}
+use Rattle.conic.specs.Paper.{Verdict}
+use Rattle.solve.specs.Answer.{solved}
+use Rattle.solve.specs.Solve.{solveOf}
 use Rattle.book.specs.Layout.{bodyLength, kindOf, conicAt}
 use Rattle.book.proofs.BodyKinds.{kind-at-most}
 use Rattle.book.proofs.Laid.{conic-stored}

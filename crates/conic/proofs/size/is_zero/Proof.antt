@@ -7,7 +7,7 @@ use lib.IntN.{ℤ, pos, negsuc}
 use mir.Syntax.{w64}
 use mir.Val.{SFits, ofZ}
 use borrow.Author.Tests.{ne-eqb}
-use Rattle.conic.specs.Solve.{isZero}
+use Rattle.conic.specs.Paper.{isZero}
 use Rattle.conic.proofs.size.is_zero.Statement.{statement}
 use Rattle.conic.proofs.size.is_zero.Tie as tie
 

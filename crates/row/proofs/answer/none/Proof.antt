@@ -1,8 +1,9 @@
 -- `row::answer::none` meets its contract: each way is the text of its reason. Assumes nothing.
 use mathlib.Core.Path.{_≡_, ap}
 use borrow.Author.Needs.{needs}
-use Rattle.conic.specs.Paper.{none-by-prime, none-by-sign, reasonGiven}
-use Rattle.conic.specs.declared.solve.Reason.{Reason}
+use Rattle.conic.specs.Paper.{none-by-prime, none-by-sign}
+use Rattle.solve.specs.Answer.{reasonGiven}
+use Rattle.solve.specs.declared.Reason.{Reason}
 use Rattle.row.specs.Writing.{rowText}
 use Rattle.row.proofs.Buffer.{wrote-as}
 use Rattle.row.proofs.answer.none.Statement.{statement}

@@ -1,9 +1,9 @@
 -- `row::answer::written` meets its contract: each way out is the row of its case. Assumes nothing.
 use mathlib.Core.Path.{_≡_, sym, ap, _∙_}
 use borrow.Author.Needs.{needs}
-use Rattle.conic.specs.Paper.{answered, solved, reasonGiven}
-use Rattle.conic.specs.declared.solve.Answer.{Answer}
-use Rattle.conic.specs.declared.solve.Solved.{Solved}
+use Rattle.solve.specs.Answer.{answered, solved, reasonGiven}
+use Rattle.solve.specs.declared.Answer.{Answer}
+use Rattle.solve.specs.declared.Solved.{Solved}
 use Rattle.row.specs.Writing.{rowText}
 use Rattle.row.specs.Texts.{refusalText, pointText}
 use Rattle.row.proofs.Buffer.{wrote-as}

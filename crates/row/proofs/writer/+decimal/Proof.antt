@@ -5,12 +5,12 @@ use mathlib.Core.List.{List, [], _∷_}
 use Prim.Native.Nat.{ℕ, _+_, _/_, _%_, _<_}
 use native.Mathlib.Omega.{arith}
 use lib.ListN.{length}
+use borrow.Fn.Kinds.{In}
+use borrow.Fn.PlainCycle.{Measures, is, falls, and}
 use Rattle.row.specs.Reading.{digitZero}
 use Rattle.row.specs.Writing.{decimal}
 use Rattle.row.proofs.Buffer.{wrote-as, wrote-length, wrote-both, room-for-first, room-after}
 use Rattle.row.proofs.Decimal.{decimal-small, decimal-large}
-use borrow.Fn.Kinds.{In}
-use borrow.Fn.PlainCycle.{Measures, is, falls, and}
 use Rattle.row.proofs.writer.decimal.Reads as contract
 use Rattle.row.proofs.writer.decimal.Kinds as decimal-kinds
 use Rattle.row.proofs.writer.+decimal.Lts-decimal as decimal-lts

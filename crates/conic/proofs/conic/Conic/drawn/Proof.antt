@@ -4,8 +4,7 @@ use lib.IntN.{_-ℤ_, _*ℤ_}
 use mir.Syntax.{w64}
 use borrow.Author.Needs.{needs}
 use Rattle.whole.proofs.Signed.{sizes, fits, reads}
-use Rattle.conic.specs.Form.{G, L}
-use Rattle.conic.specs.Solve.{drawn}
+use Rattle.conic.specs.Form.{G, L, drawn}
 use Rattle.conic.specs.declared.point.Point.{Point}
 use Rattle.conic.specs.declared.conic.Conic.{Conic}
 use Rattle.conic.proofs.Bounds.{formSizes}

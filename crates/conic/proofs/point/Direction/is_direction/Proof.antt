@@ -1,6 +1,6 @@
 -- `conic::point::Direction::is_direction` meets its contract, test by test. Assumes nothing.
 use borrow.Author.Needs.{needs}
-use Rattle.conic.specs.Direction.{isDirection}
+use Rattle.conic.specs.Base.{isDirection}
 use Rattle.conic.proofs.Passed.{tested}
 use Rattle.conic.proofs.point.Direction.is_direction.Statement.{statement}
 use Rattle.conic.proofs.point.Direction.is_direction.Tie as tie

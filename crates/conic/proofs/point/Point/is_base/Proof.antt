@@ -1,6 +1,6 @@
 -- `conic::point::Point::is_base` meets its contract, test by test. Assumes nothing.
 use borrow.Author.Needs.{needs}
-use Rattle.conic.specs.Direction.{isBase}
+use Rattle.conic.specs.Base.{isBase}
 use Rattle.conic.proofs.Passed.{tested}
 use Rattle.conic.proofs.point.Point.is_base.Statement.{statement}
 use Rattle.conic.proofs.point.Point.is_base.Tie as tie

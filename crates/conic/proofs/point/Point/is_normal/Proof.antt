@@ -3,7 +3,7 @@ use mathlib.Core.Path.{_≡_, ap}
 use Prim.Native.Nat.{ℕ}
 use lib.Dec.{eqb}
 use borrow.Author.Needs.{needs}
-use Rattle.conic.specs.Direction.{isNormal}
+use Rattle.conic.specs.Base.{isNormal}
 use Rattle.conic.proofs.Passed.{tested}
 use Rattle.conic.proofs.point.Point.is_normal.Statement.{statement}
 use Rattle.conic.proofs.point.Point.is_normal.Tie as tie

@@ -1,6 +1,6 @@
 -- `conic::point::Point::is_target` meets its contract, test by test. Assumes nothing.
 use borrow.Author.Needs.{needs}
-use Rattle.conic.specs.Direction.{isTarget}
+use Rattle.conic.specs.Base.{isTarget}
 use Rattle.conic.proofs.Passed.{tested}
 use Rattle.conic.proofs.point.Point.is_target.Statement.{statement}
 use Rattle.conic.proofs.point.Point.is_target.Tie as tie

@@ -1,0 +1,19 @@
+-- Choices by a test: what holds in both cases holds of the choice, and the choice is the case that the test tells. Assumes nothing.
+use mathlib.Core.Path.{_≡_, refl, sym, ap, _∙_}
+use mathlib.Core.Bool.{Bool, true, false, cond, not, Bool·not-not}
+
+pub cond-cases : {A : Type 0} (P : A → Type 0) (b : Bool) {x y : A} → (b ≡ true → P x) → (b ≡ false → P y) → P (cond b x y)
+cond-cases P true f g = f refl
+cond-cases P false f g = g refl
+
+pub when : {A : Type 0} {b : Bool} (x y : A) → b ≡ true → x ≡ cond b x y
+when x y e = ap (λ b. cond b x y) (sym e)
+
+pub unless : {A : Type 0} {b : Bool} (x y : A) → b ≡ false → y ≡ cond b x y
+unless x y e = ap (λ b. cond b x y) (sym e)
+
+pub was-false : (b : Bool) → not b ≡ true → b ≡ false
+was-false b e = sym (Bool·not-not b) ∙ ap not e
+
+pub was-true : (b : Bool) → not b ≡ false → b ≡ true
+was-true b e = sym (Bool·not-not b) ∙ ap not e

@@ -1,0 +1,9 @@
+pub mod Directions
+pub mod Drawing
+pub mod Chords
+pub mod Tests
+pub mod Steps
+pub mod Demand3
+pub mod Entries
+pub mod Room
+pub mod Promise

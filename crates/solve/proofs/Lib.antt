@@ -1,0 +1,10 @@
+pub mod Levelling
+pub mod Sizes
+pub mod Infinity
+pub mod Sign
+pub mod Demand2
+pub mod Bench
+pub mod Carrying
+pub mod Entries
+pub mod Reach
+pub mod Promise
