@@ -4,10 +4,8 @@ use conic::paper::Refusal;
 use conic::point::Point;
 use solve::Reason;
 
-mod bytes;
-mod layout;
-pub mod reader;
-pub mod writer;
+pub mod bytes;
+pub mod layout;
 
 // The length of the book that was written.
 pub enum Written {

@@ -1,8 +1,6 @@
 // The library for callers in C and Rust: six functions in flat form, each for every input. An answer's code is 0 or more, a refusal's is
 // minus the paper's number; exactly the places named for a code are written.
 use book::Entry;
-use book::reader;
-use book::writer;
 use conic::conic::Conic;
 use conic::point::Direction;
 use conic::point::Point;
@@ -124,7 +122,7 @@ pub extern "C" fn conic_row(text: &[u8], out: &mut [u8]) -> i64
 pub extern "C" fn conic_book_write(list: &[u8], book: &mut [u8]) -> i64
     ensures { λ r. ⌜ ConicBookWrite (now (list .entry)) (now (book .entry)) r (now (book .exit)) ⌝ }
 {
-    match writer::write(list, book) {
+    match book_writer::write(list, book) {
         book::Written::Length(n) => n as i64,
         book::Written::Refused(refusal) => place::refused(refusal),
     }
@@ -143,7 +141,7 @@ pub extern "C" fn conic_book_read(
     ensures { λ r. ⌜ ConicBookRead (now (book .entry)) number (now (conic .entry)) (now (point .entry)) (now (prime .entry)) r
         (now (conic .exit)) (now (point .exit)) (now (prime .exit)) ⌝ }
 {
-    match reader::read(book, number) {
+    match book_reader::read(book, number) {
         Entry::Conic(h, stored) => place::put_entry(h, stored, conic, point, prime),
         Entry::Refused(refusal) => place::refused(refusal),
     }
