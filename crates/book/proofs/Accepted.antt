@@ -6,8 +6,9 @@ use Prim.Native.Nat.{ℕ, _+_}
 use lib.Dec.{T}
 use lib.IntN.{pos}
 use Rattle.number.proofs.Least.{true-of-T, not-true-of-false}
+use Rattle.point.specs.Paper.{Verdict, point, none-by-sign, none-by-prime, refusal}
 use Rattle.conic.specs.Form.{Δ}
-use Rattle.conic.specs.Paper.{Verdict, point, none-by-sign, none-by-prime, refusal, inRange}
+use Rattle.conic.specs.Base.{inRange}
 use Rattle.conic.specs.declared.conic.Conic.{Conic}
 use Rattle.solve.specs.Demand2.{NonDegenerate, HasPoint, PointExactly, RightPoint, OneSignEverywhere, SignExactly}
 use Rattle.solve.specs.Solve.{solveOf}

@@ -6,7 +6,7 @@ use mathlib.Core.Path.{_≡_, refl, sym, ap, subst, _∙_}
 use Prim.Native.Nat.{ℕ, zero, suc, _+_, _≤_}
 use lib.Dec.{lit≤}
 use native.Mathlib.Omega.{arith}
-use Rattle.conic.specs.Paper.{Verdict, point, none-by-sign, none-by-prime, refusal}
+use Rattle.point.specs.Paper.{Verdict, point, none-by-sign, none-by-prime, refusal}
 use Rattle.book.specs.Layout.{bodyLength, kindOf}
 use Rattle.book.specs.Reader.{isRight, ReaderAnswer, contentOf}
 

@@ -1,7 +1,7 @@
 -- Conics and points are equal if their numbers are. Assumes nothing.
 use mathlib.Core.Path.{_≡_}
+use Rattle.point.specs.declared.Point.{Point}
 use Rattle.conic.specs.declared.conic.Conic.{Conic}
-use Rattle.conic.specs.declared.point.Point.{Point}
 
 pub same-conic :
     {h k : Conic} → h .a ≡ k .a → h .b ≡ k .b → h .c ≡ k .c → h .d ≡ k .d → h .e ≡ k .e → h .f ≡ k .f → h ≡ k

@@ -9,15 +9,16 @@ use borrow.Author.Needs.{sfits-of}
 use borrow.Author.Tests.{not-true, not-false}
 use mir.Syntax.{w64}
 use mir.Val.{toZ, ofZ}
-use Rattle.conic.specs.Base.{isBase, fromBase, Judgement, legal, refused, judged, judgedOf}
+use Rattle.point.specs.Legal.{isBase}
+use Rattle.point.specs.Paper.{isZero}
+use Rattle.point.specs.declared.paper.Refusal.{Refusal}
+use Rattle.point.specs.declared.Point.{Point}
+use Rattle.point.proofs.Passed.{passed-zero}
+use Rattle.conic.specs.Base.{fromBase, Judgement, legal, refused, judged, judgedOf, inRange}
 use Rattle.conic.specs.Form.{G, Δ}
-use Rattle.conic.specs.Paper.{inRange, isZero}
 use Rattle.conic.specs.declared.base.Judged.{Judged}
 use Rattle.conic.specs.declared.base.Judged.the-variants as Judged
 use Rattle.conic.specs.declared.conic.Conic.{Conic}
-use Rattle.conic.specs.declared.paper.Refusal.{Refusal}
-use Rattle.conic.specs.declared.point.Point.{Point}
-use Rattle.conic.proofs.Passed.{passed-zero}
 use Rattle.book.specs.Reader.{isRightPoint}
 
 -- what a call's answer to a test says of the test

@@ -6,7 +6,7 @@ use Prim.Native.Nat.{ℕ, _+_, _*_, _≤_, _<_}
 use native.Mathlib.Omega.{arith}
 use lib.ListN.{length, getD, take, drop}
 use lib.Seq.{sets, sets-eq, paste}
-use Rattle.conic.specs.Paper.{Verdict}
+use Rattle.point.specs.Paper.{Verdict}
 use Rattle.conic.specs.declared.conic.Conic.{Conic}
 use Rattle.solve.specs.Solve.{solveOf}
 use Rattle.book.specs.Bytes.{bytes}

@@ -4,13 +4,13 @@ use mathlib.Core.Path.{_≡_, ap₂}
 use lib.IntN.{pos}
 use lib.Signed.{ltZ, ltZ-yes}
 use Rattle.number.proofs.Least.{true-of-T, T-of-true}
-use Rattle.conic.specs.Base.{isNormal, isBase}
+use Rattle.point.specs.Legal.{isNormal, isBase}
+use Rattle.point.specs.Paper.{pointInLimit}
+use Rattle.point.specs.declared.Point.{Point}
+use Rattle.point.proofs.Limits.{point-in-limit, within-point}
+use Rattle.point.proofs.Tests.{isNormal-iff}
 use Rattle.conic.specs.Form.{G}
-use Rattle.conic.specs.Paper.{pointInLimit}
 use Rattle.conic.specs.declared.conic.Conic.{Conic}
-use Rattle.conic.specs.declared.point.Point.{Point}
-use Rattle.conic.proofs.Limits.{point-in-limit, within-point}
-use Rattle.conic.proofs.Tests.{isNormal-iff}
 use Rattle.solve.specs.Demand2.{RightPoint}
 
 pub legal-is-right : (h : Conic) (p : Point) → isBase p ≡ true → G h p ≡ pos 0 → RightPoint h p

@@ -2,7 +2,7 @@
 use mathlib.Core.List.{List}
 use mathlib.Core.Path.{_≡_, refl, ap}
 use lib.ListN.{getD}
-use Rattle.conic.specs.Paper.{Verdict, none-by-sign}
+use Rattle.point.specs.Paper.{Verdict, none-by-sign}
 use Rattle.solve.specs.Bench.{StarredExamples}
 use Rattle.solve.specs.Solve.{solveOf}
 use Rattle.solve.proofs.Bench.{starredExamples}

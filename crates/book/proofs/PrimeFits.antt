@@ -10,8 +10,8 @@ use Rattle.whole.proofs.Size.{natAbs-positive}
 use Rattle.number.specs.Divides.{_∣ℤ_}
 use Rattle.number.proofs.Divides.{∣ℤ-times-right, divisor-size-bound}
 use Rattle.number.proofs.Prime.{prime-divides-product}
+use Rattle.point.specs.Paper.{none-by-prime}
 use Rattle.conic.specs.Form.{D, Δ}
-use Rattle.conic.specs.Paper.{none-by-prime}
 use Rattle.conic.specs.declared.conic.Conic.{Conic}
 use Rattle.conic.proofs.Sizes.{in-limit, D-size, aΔ-size}
 use Rattle.solve.specs.Demand2.{NonDegenerate, PrimeIsTrue, SquareDiscriminant, SquareHasPoint}

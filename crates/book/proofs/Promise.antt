@@ -3,10 +3,10 @@
 use mathlib.Core.List.{List}
 use mathlib.Core.Path.{_≡_, refl, sym, ap, ap₂, _∙_}
 use Prim.Native.Nat.{ℕ}
-use Rattle.conic.specs.Paper.{number}
-use Rattle.conic.specs.declared.paper.Refusal.{Refusal}
-use Rattle.conic.specs.declared.paper.Refusal.the-variants as Refusal
-use Rattle.conic.proofs.Promise.{same-refusal}
+use Rattle.point.specs.Paper.{number}
+use Rattle.point.specs.declared.paper.Refusal.{Refusal}
+use Rattle.point.specs.declared.paper.Refusal.the-variants as Refusal
+use Rattle.point.proofs.Promise.{same-refusal}
 use Rattle.solve.specs.declared.Reason.the-variants as Reason
 use Rattle.book.specs.Reader.{ReaderAnswer, with-point, with-none-by-sign, with-none-by-prime, degenerate, no-entry, entry, ReaderPromise}
 use Rattle.book.specs.Writer.{written, WriterPromise}

@@ -8,10 +8,11 @@ use native.Mathlib.Omega.{arith}
 use lib.IntN.{ℤ, natAbs}
 use lib.ListN.{getD, drop}
 use lib.Seq.{getD-drop}
-use Rattle.conic.specs.Paper.{point, none-by-prime, coefficientLimit, pointLimit}
-use Rattle.conic.specs.Sizes.{InLimit, PointWithin}
+use Rattle.point.specs.Paper.{point, none-by-prime, coefficientLimit, pointLimit}
+use Rattle.point.specs.Sizes.{PointWithin}
+use Rattle.point.specs.declared.Point.{Point}
+use Rattle.conic.specs.Sizes.{InLimit}
 use Rattle.conic.specs.declared.conic.Conic.{Conic}
-use Rattle.conic.specs.declared.point.Point.{Point}
 use Rattle.book.specs.Bytes.{bytes, numberAt, unsigned, signed}
 use Rattle.book.specs.Layout.{coefficients, added, conicAt, pointAt}
 use Rattle.book.proofs.Fields.{same-conic, same-point}

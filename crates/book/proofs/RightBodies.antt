@@ -8,12 +8,13 @@ use Prim.Native.Nat.{ℕ, zero, suc, _+_}
 use lib.IntN.{pos}
 use borrow.Author.Tests.{eqb-true, eq-eqb, not-true}
 use Rattle.number.proofs.Least.{true-of-T, T-of-true, not-true-of-false}
-use Rattle.conic.specs.Base.{isBase}
+use Rattle.point.specs.Legal.{isBase}
+use Rattle.point.specs.Paper.{Verdict, point, none-by-sign, none-by-prime, refusal, isZero}
+use Rattle.point.specs.declared.Point.{Point}
+use Rattle.point.proofs.Tests.{isZero-iff, isZero-not}
 use Rattle.conic.specs.Form.{G, Δ}
-use Rattle.conic.specs.Paper.{Verdict, point, none-by-sign, none-by-prime, refusal, inRange, isZero}
+use Rattle.conic.specs.Base.{inRange}
 use Rattle.conic.specs.declared.conic.Conic.{Conic}
-use Rattle.conic.specs.declared.point.Point.{Point}
-use Rattle.conic.proofs.Tests.{isZero-iff, isZero-not}
 use Rattle.solve.specs.Demand2.{NonDegenerate}
 use Rattle.solve.specs.Solve.{solveOf}
 use Rattle.book.specs.Bytes.{numberAt}

@@ -10,7 +10,7 @@ use lib.IntN.{ℤ, pos, negsuc, natAbs, _+ℤ_}
 use lib.Signed.{_≤ℤ_, _<ℤ_}
 use borrow.Author.Tests.{lt-ltb, le-ltb, ltb-true, ltb-false}
 use Rattle.number.proofs.Least.{true-or-false}
-use Rattle.conic.specs.Paper.{pointLimit}
+use Rattle.point.specs.Paper.{pointLimit}
 use Rattle.book.specs.Bytes.{unsigned, signed, signedBelow}
 
 pub unsigned-negative : (n : ℤ) → n <ℤ pos 0 → natAbs n ≤ pointLimit → n +ℤ pos 4_294_967_296 ≡ pos (unsigned 4 n)

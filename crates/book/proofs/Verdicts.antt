@@ -8,12 +8,13 @@ use Rattle.number.proofs.Least.{T-of-true, true-or-false, not-true-of-false}
 use Rattle.legendre.specs.Outcome.{outcomeOf}
 use Rattle.legendre.specs.declared.outcome.Outcome.{Outcome}
 use Rattle.legendre.specs.declared.outcome.Outcome.the-variants as Outcome
+use Rattle.point.specs.Paper.{Verdict, point, none-by-sign, none-by-prime, refusal, pointLimit, isZero}
+use Rattle.point.specs.Sizes.{PointWithin}
+use Rattle.point.specs.declared.Point.{Point}
+use Rattle.point.proofs.Tests.{isZero-iff}
 use Rattle.conic.specs.Form.{D, Δ}
-use Rattle.conic.specs.Paper.{Verdict, point, none-by-sign, none-by-prime, refusal, inRange, pointLimit, isZero}
-use Rattle.conic.specs.Sizes.{PointWithin}
+use Rattle.conic.specs.Base.{inRange}
 use Rattle.conic.specs.declared.conic.Conic.{Conic}
-use Rattle.conic.specs.declared.point.Point.{Point}
-use Rattle.conic.proofs.Tests.{isZero-iff}
 use Rattle.solve.specs.Demand2.{NonDegenerate, PointIsRight}
 use Rattle.solve.specs.Level.{levelOf}
 use Rattle.solve.specs.Solve.{isSquareNumber, fromInfinity, outcomeCarried, solveLevelled, solveNonDegenerate, solveOf}

@@ -8,7 +8,8 @@ use native.Mathlib.Omega.{arith}
 use lib.Dec.{T}
 use lib.ListN.{length, getD, drop}
 use Rattle.number.proofs.Least.{true-of-T, T-of-true}
-use Rattle.conic.specs.Paper.{Verdict, point, none-by-sign, none-by-prime, refusal, inRange}
+use Rattle.point.specs.Paper.{Verdict, point, none-by-sign, none-by-prime, refusal}
+use Rattle.conic.specs.Base.{inRange}
 use Rattle.conic.specs.declared.conic.Conic.{Conic}
 use Rattle.conic.proofs.Sizes.{in-limit}
 use Rattle.solve.specs.Demand2.{PointIsRight}

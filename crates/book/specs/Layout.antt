@@ -3,9 +3,9 @@
 use mathlib.Core.List.{List, [], _∷_, _++_}
 use Prim.Native.Nat.{ℕ, _+_, _*_}
 use lib.ListN.{getD}
-use Rattle.conic.specs.Paper.{Verdict, point, none-by-sign, none-by-prime, refusal}
+use Rattle.point.specs.Paper.{Verdict, point, none-by-sign, none-by-prime, refusal}
+use Rattle.point.specs.declared.Point.{Point}
 use Rattle.conic.specs.declared.conic.Conic.{Conic}
-use Rattle.conic.specs.declared.point.Point.{Point}
 use Rattle.book.specs.Bytes.{bytes, numberAt, unsigned, signed}
 
 abbrev pub countLimit : ℕ

@@ -6,11 +6,12 @@ use mathlib.Core.Path.{_≡_}
 use Prim.Native.Nat.{ℕ, zero, suc, _+_, _*_}
 use lib.Dec.{eqb, leb, ltb}
 use lib.ListN.{length, getD}
-use Rattle.conic.specs.Base.{isBase}
+use Rattle.point.specs.Legal.{isBase}
+use Rattle.point.specs.Paper.{Verdict, point, none-by-sign, none-by-prime, refusal, number, isZero}
+use Rattle.point.specs.declared.Point.{Point}
 use Rattle.conic.specs.Form.{G, Δ}
-use Rattle.conic.specs.Paper.{Verdict, point, none-by-sign, none-by-prime, refusal, inRange, number, isZero}
+use Rattle.conic.specs.Base.{inRange}
 use Rattle.conic.specs.declared.conic.Conic.{Conic}
-use Rattle.conic.specs.declared.point.Point.{Point}
 use Rattle.solve.specs.Solve.{solveOf}
 use Rattle.solve.specs.declared.Reason.{Reason}
 use Rattle.solve.specs.declared.Reason.the-variants as Reason

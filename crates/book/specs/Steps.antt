@@ -4,10 +4,10 @@ use mathlib.Core.Path.{_≡_}
 use Prim.Native.Nat.{ℕ, _+_, _*_, _%_, _≤_}
 use lib.ListN.{length, drop}
 use lib.Seq.{sets}
-use Rattle.conic.specs.Paper.{Verdict, point, pointLimit}
-use Rattle.conic.specs.Sizes.{PointWithin}
+use Rattle.point.specs.Paper.{Verdict, point, pointLimit}
+use Rattle.point.specs.Sizes.{PointWithin}
+use Rattle.point.specs.declared.Point.{Point}
 use Rattle.conic.specs.declared.conic.Conic.{Conic}
-use Rattle.conic.specs.declared.point.Point.{Point}
 use Rattle.solve.specs.Solve.{solveOf}
 use Rattle.book.specs.Bytes.{bytes}
 use Rattle.book.specs.Layout.{countLimit, bodyLength, kindOf, coefficients, added, countOf}

@@ -7,11 +7,12 @@ use Prim.Native.Nat.{ℕ, _+_, _*_, _<_, _≤_}
 use lib.Dec.{T}
 use lib.IntN.{pos}
 use lib.ListN.{length, getD}
-use Rattle.conic.specs.Base.{isBase}
+use Rattle.point.specs.Legal.{isBase}
+use Rattle.point.specs.Paper.{Verdict, point, none-by-sign, none-by-prime, refusal}
+use Rattle.point.specs.declared.Point.{Point}
 use Rattle.conic.specs.Form.{G, Δ}
-use Rattle.conic.specs.Paper.{Verdict, point, none-by-sign, none-by-prime, refusal, inRange}
+use Rattle.conic.specs.Base.{inRange}
 use Rattle.conic.specs.declared.conic.Conic.{Conic}
-use Rattle.conic.specs.declared.point.Point.{Point}
 use Rattle.solve.specs.Demand2.{NonDegenerate, HasPoint, RightPoint, OneSignEverywhere}
 use Rattle.solve.specs.Solve.{solveOf}
 use Rattle.book.specs.Bytes.{numberAt}

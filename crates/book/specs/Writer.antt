@@ -5,7 +5,8 @@ use mathlib.Core.Path.{_≡_}
 use Prim.Native.Nat.{ℕ, zero, suc, _+_, _*_, _/_, _%_}
 use lib.Dec.{eqb, ltb}
 use lib.ListN.{length, drop}
-use Rattle.conic.specs.Paper.{inRange, number}
+use Rattle.point.specs.Paper.{number}
+use Rattle.conic.specs.Base.{inRange}
 use Rattle.conic.specs.declared.conic.Conic.{Conic}
 use Rattle.solve.specs.Solve.{solveOf}
 use Rattle.book.specs.Bytes.{bytes}

@@ -4,7 +4,7 @@ ghost use Prim.Native.Nat.{_+_, _≤_, _<_};
 ghost use lib.IntN.{natAbs};
 ghost use lib.ListN.{length, getD, drop};
 ghost use lib.Seq.{sets, paste};
-ghost use Rattle.conic.specs.Paper.{pointLimit};
+ghost use Rattle.point.specs.Paper.{pointLimit};
 ghost use Rattle.book.specs.Bytes.{bytes, numberAt, unsigned, signed, signedBelow};
 
 // A byte as a number of 64 bits.

@@ -1,7 +1,7 @@
 // The layout of a book: its limits, the lengths of its bodies, and what stands in one.
 use crate::bytes;
 use conic::conic::Conic;
-use conic::point::Point;
+use point::Point;
 ghost use mathlib.Core.Path.{_≡_};
 ghost use Prim.Native.Nat.{_+_, _≤_};
 ghost use lib.ListN.{length};

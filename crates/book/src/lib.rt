@@ -1,7 +1,7 @@
 // The curve book: a stored set of conics with their answers.
 use conic::conic::Conic;
-use conic::paper::Refusal;
-use conic::point::Point;
+use point::Point;
+use point::paper::Refusal;
 use solve::Reason;
 
 pub mod bytes;

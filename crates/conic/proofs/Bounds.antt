@@ -3,11 +3,12 @@
 use Prim.Native.Nat.{ℕ, _+_, _*_, _≤_}
 use lib.IntN.{natAbs}
 use Rattle.whole.proofs.Signed.{sizes, Sized, at-most, bounds}
+use Rattle.point.specs.Paper.{coefficientLimit, pointLimit, directionLimit}
+use Rattle.point.specs.Normal.{largest}
+use Rattle.point.specs.Sizes.{PointWithin}
+use Rattle.point.specs.declared.Point.{Point}
 use Rattle.conic.specs.Form.{G, Gx, Gy, Gz, L, D, Δ, k, drawn}
-use Rattle.conic.specs.Paper.{coefficientLimit, pointLimit, directionLimit}
-use Rattle.conic.specs.Normal.{largest}
-use Rattle.conic.specs.Sizes.{InLimit, PointWithin, ConicAt, ConicAlong}
-use Rattle.conic.specs.declared.point.Point.{Point}
+use Rattle.conic.specs.Sizes.{InLimit, ConicAt, ConicAlong}
 use Rattle.conic.specs.declared.conic.Conic.{Conic}
 use Rattle.conic.proofs.Sizes.{limit-D, limit-Δ, limit-k, D-size, Δ-size, k-size}
 

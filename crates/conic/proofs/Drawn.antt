@@ -4,10 +4,10 @@ use mathlib.Core.Path.{_≡_, ap, _∙_}
 use mathlib.Core.List.{[], _∷_}
 use lib.IntN.{ℤ, pos, negℤ, _+ℤ_, _-ℤ_, _*ℤ_, *ℤ-zero}
 use Rattle.whole.proofs.Ring.{by-ring, reify}
+use Rattle.point.specs.declared.Point.{Point}
+use Rattle.point.proofs.Vector.{line, same-point}
 use Rattle.conic.specs.Form.{G, L, drawn}
-use Rattle.conic.specs.declared.point.Point.{Point}
 use Rattle.conic.specs.declared.conic.Conic.{Conic}
-use Rattle.conic.proofs.Vector.{line, same-point}
 use Rattle.conic.proofs.Form.{G-line}
 
 minus : (g l m n : ℤ) → g *ℤ m -ℤ l *ℤ n ≡ g *ℤ m +ℤ negℤ l *ℤ n

@@ -1,13 +1,17 @@
 -- G on a line through two points, and L: linear in each point and symmetric, with L(P, P) = 2G(P). Each is one identity of
--- polynomials. Assumes nothing.
-use mathlib.Core.Path.{_≡_}
+-- polynomials; so a point is on the conic exactly if its normal form is. Assumes nothing.
+use mathlib.Core.Path.{_≡_, sym, ap, _∙_}
+use mathlib.Core.Logic.{_≢_, _↔_}
+use lib.IntN.{ℤ, pos, _*ℤ_, *ℤ-zero, _+ℤ_}
 use mathlib.Core.List.{[], _∷_}
-use lib.IntN.{ℤ, pos, _+ℤ_, _*ℤ_}
+use Rattle.whole.proofs.Cancel.{other-factor-zero, product-not-zero}
 use Rattle.whole.proofs.Ring.{by-ring, reify}
+use Rattle.point.specs.Normal.{normal}
+use Rattle.point.specs.declared.Point.{Point}
+use Rattle.point.proofs.Vector.{scaled, Zero, line}
+use Rattle.point.proofs.Normal.{signedFactor, signedFactor-not-zero, factor-times-normal}
 use Rattle.conic.specs.Form.{G, Gx, Gy, Gz, L}
-use Rattle.conic.specs.declared.point.Point.{Point}
 use Rattle.conic.specs.declared.conic.Conic.{Conic}
-use Rattle.conic.proofs.Vector.{scaled, line}
 
 pub G-line : (h : Conic) (p t : Point) (α β : ℤ) →
     G h (line α p β t) ≡ α *ℤ α *ℤ G h p +ℤ α *ℤ β *ℤ L h p t +ℤ β *ℤ β *ℤ G h t
@@ -50,3 +54,20 @@ scaling k u v w f g e = by-ring (k ∷ u ∷ v ∷ w ∷ f ∷ g ∷ e ∷ []) (
 pub L-scaled : (h : Conic) (s : Point) (k : ℤ) (t : Point) → L h s (scaled k t) ≡ k *ℤ L h s t
 unfolding L
 L-scaled h s k t = scaling k (t .x) (t .y) (t .z) (Gx h s) (Gy h s) (Gz h s)
+
+-- ---- on the conic
+
+pub normal-on-iff : (h : Conic) {p : Point} → ¬ Zero p → (G h p ≡ pos 0) ↔ (G h (normal p) ≡ pos 0)
+normal-on-iff h {p} f = (
+  λ e. other-factor-zero (product-not-zero s≢0 s≢0) (sym grown ∙ e),
+  λ e. grown ∙ ap (λ m. s *ℤ s *ℤ m) e ∙ *ℤ-zero (s *ℤ s),
+)
+  where
+    s : ℤ
+    s = signedFactor p
+
+    s≢0 : s ≢ pos 0
+    s≢0 = signedFactor-not-zero f
+
+    grown : G h p ≡ s *ℤ s *ℤ G h (normal p)
+    grown = ap (G h) (sym (factor-times-normal p)) ∙ G-scaled h s (normal p)

@@ -10,10 +10,10 @@ use Rattle.whole.proofs.Ring.{by-ring, reify}
 use Rattle.whole.proofs.Combination.{combine, _⊞_, _⊠_}
 use Rattle.whole.proofs.Products.{*ℤ-cancel, zero-of-square}
 use Rattle.whole.proofs.Cancel.{other-factor-zero}
+use Rattle.point.specs.declared.Point.{Point}
+use Rattle.point.proofs.Vector.{unit-x, unit-y, unit-z, Zero, Proportional}
 use Rattle.conic.specs.Form.{G, Gx, Gy, Gz, L, Δ}
-use Rattle.conic.specs.declared.point.Point.{Point}
 use Rattle.conic.specs.declared.conic.Conic.{Conic}
-use Rattle.conic.proofs.Vector.{unit-x, unit-y, unit-z, Zero, Proportional}
 use Rattle.conic.proofs.Form.{L-self, L-symmetric}
 
 -- ---- determinants

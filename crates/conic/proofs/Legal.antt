@@ -1,20 +1,19 @@
 -- What a conic with its base is judged, test by test: each verdict is the one behind the tests that hold, and what passes is small
 -- enough for the polynomials. Assumes nothing.
 use mathlib.Core.Path.{_≡_, refl, sym, ap, subst, _∙_}
-use mathlib.Core.Bool.{Bool, true, false, cond, _&&_, and-eq-true-iff}
+use mathlib.Core.Bool.{Bool, true, false, cond}
 use Prim.Native.Nat.{ℕ}
-use lib.IntN.{pos}
-use lib.Signed.{ltZ}
 use Rattle.number.proofs.Least.{T-of-true, not-true-of-false, true-of-T}
-use Rattle.conic.specs.Base.{LegalBase, isBase, isTarget, fromBase, Judgement, legal, refused, judgedOf, isNormal}
+use Rattle.point.specs.Legal.{isBase}
+use Rattle.point.specs.Paper.{point, isZero}
+use Rattle.point.specs.declared.Point.{Point}
+use Rattle.point.proofs.Cases.{cond-cases, when, unless}
+use Rattle.point.proofs.Tests.{isZero-iff}
+use Rattle.point.proofs.Limits.{base-within}
+use Rattle.conic.specs.Base.{LegalBase, fromBase, Judgement, legal, refused, judgedOf, inRange}
 use Rattle.conic.specs.Form.{G, Δ}
-use Rattle.conic.specs.Paper.{point, inRange, isZero, pointLimit, pointInLimit}
-use Rattle.conic.specs.Sizes.{PointWithin, ConicAt}
-use Rattle.conic.specs.declared.point.Point.{Point}
+use Rattle.conic.specs.Sizes.{ConicAt}
 use Rattle.conic.specs.declared.conic.Conic.{Conic}
-use Rattle.conic.proofs.Cases.{cond-cases, when, unless}
-use Rattle.conic.proofs.Tests.{isZero-iff}
-use Rattle.conic.proofs.Limits.{point-in-limit}
 use Rattle.conic.proofs.Sizes.{in-limit}
 
 -- ---- the refusals that the direction entries share
@@ -84,16 +83,6 @@ pub settle : {A : Type 0} (refuse : ℕ → A) (next : A) {x : A} {j : Judgement
 settle refuse next h p e f = f ∙ ap (settled refuse next) e ∙ by-judgement refuse next h p
 
 -- ---- what the tests say
-
-pub base-within : (p : Point) → isBase p ≡ true → PointWithin pointLimit p
-unfolding isBase
-base-within p e =
-    let (tested, z) = and-eq-true-iff (pointInLimit p && isNormal p) (ltZ (pos 0) (p .z)) .0 e in
-    point-in-limit p (and-eq-true-iff (pointInLimit p) (isNormal p) .0 tested .0)
-
-pub target-within : (q : Point) → isTarget q ≡ true → PointWithin pointLimit q
-unfolding isTarget
-target-within q e = point-in-limit q (and-eq-true-iff (pointInLimit q) (isNormal q) .0 e .0)
 
 pub at-base : (h : Conic) (p : Point) → LegalBase h p → ConicAt h p
 at-base h p l = record { conic = in-limit h (l .in-range); point = base-within p (true-of-T (isBase p) (l .legal)) }

@@ -1,14 +1,7 @@
-pub mod Vector
 pub mod Form
 pub mod Gram
-pub mod Factor
-pub mod Normal
 pub mod Drawn
-pub mod Cases
-pub mod Tests
-pub mod Passed
 pub mod Sizes
-pub mod Limits
 pub mod Products
 pub mod Bounds
 pub mod Legal

@@ -1,20 +1,16 @@
--- Sizes, from the limit on the coefficients: of D, Δ, aΔ and k; and the normal form of a point is no larger than the point. Assumes
--- nothing.
+-- Sizes, from the limit on the coefficients: of D, Δ, aΔ and k. Assumes nothing.
 use mathlib.Core.Bool.{and-eq-true-iff}
 use Prim.Native.Nat.{ℕ, _*_, _≤_}
-use native.Mathlib.Nat.{le-trans}
 use lib.Dec.{T}
 use lib.IntN.{natAbs, _*ℤ_}
 use borrow.Author.Tests.{leb-true}
 use Rattle.whole.proofs.Signed.{sizes, bounds}
 use Rattle.number.proofs.Least.{true-of-T}
+use Rattle.point.specs.Paper.{coefficientLimit, within}
 use Rattle.conic.specs.Form.{D, Δ, k}
-use Rattle.conic.specs.Normal.{normal}
-use Rattle.conic.specs.Paper.{coefficientLimit, pointLimit, within, inRange}
-use Rattle.conic.specs.Sizes.{InLimit, PointWithin}
-use Rattle.conic.specs.declared.point.Point.{Point}
+use Rattle.conic.specs.Base.{inRange}
+use Rattle.conic.specs.Sizes.{InLimit}
 use Rattle.conic.specs.declared.conic.Conic.{Conic}
-use Rattle.conic.proofs.Normal.{normal-size-x, normal-size-y, normal-size-z}
 
 -- ---- what the limit on the coefficients gives
 
@@ -61,13 +57,3 @@ unfolding Δ
 
 pub aΔ-size : (h : Conic) → InLimit h → natAbs (h .a *ℤ Δ h) ≤ limit-aΔ
 aΔ-size h l = let of-Δ : natAbs (Δ h) ≤ limit-Δ = Δ-size h l in bounds (search sizes depth 40 fits 9999) tt
-
--- ---- the point, before and after the division
-
-pub normal-within : (p : Point) → PointWithin pointLimit p → PointWithin pointLimit (normal p)
-normal-within p small =
-    record {
-      x-within = le-trans (normal-size-x p) (small .x-within);
-      y-within = le-trans (normal-size-y p) (small .y-within);
-      z-within = le-trans (normal-size-z p) (small .z-within);
-    }

@@ -1,35 +1,23 @@
--- What the entries ask of a base, a target and a direction, and of a conic with its base: legal, or the first of the refusals 1, 2, 5,
--- 6. Assumes nothing.
-use mathlib.Core.Bool.{Bool, _&&_, not, cond}
-use mathlib.Core.Path.{_≡_}
+-- What the entries ask of a conic with its base: in range, not degenerate, and the base legal and on it, or the first of the refusals
+-- 1, 2, 5, 6. Assumes nothing.
+use mathlib.Core.Bool.{Bool, _&&_, cond}
 use Prim.Native.Nat.{ℕ}
-use lib.Dec.{eqb, T}
+use lib.Dec.{T}
 use lib.IntN.{pos}
-use lib.Signed.{ltZ}
+use mathlib.Core.Path.{_≡_}
+use Rattle.point.specs.Paper.{isZero, number, coefficientLimit, within}
+use Rattle.point.specs.Legal.{isBase}
+use Rattle.point.specs.declared.Point.{Point}
 use Rattle.conic.specs.Form.{G, Δ}
-use Rattle.conic.specs.Normal.{commonFactor, leading}
-use Rattle.conic.specs.Paper.{inRange, pointInLimit, directionInLimit, isZero, number}
-use Rattle.conic.specs.declared.point.Point.{Point}
-use Rattle.conic.specs.declared.point.Direction.{Direction}
 use Rattle.conic.specs.declared.conic.Conic.{Conic}
 use Rattle.conic.specs.declared.base.Judged.{Judged}
 use Rattle.conic.specs.declared.base.Judged.the-variants as Judged
 
--- in normal form
-unfoldable pub isNormal : Point → Bool
-isNormal p = eqb (commonFactor p) 1 && ltZ (pos 0) (leading p)
-
--- in limit and in normal form with z > 0
-unfoldable pub isBase : Point → Bool
-isBase p = pointInLimit p && isNormal p && ltZ (pos 0) (p .z)
-
--- in limit and in normal form
-unfoldable pub isTarget : Point → Bool
-isTarget q = pointInLimit q && isNormal q
-
--- not (0, 0), and in limit
-unfoldable pub isDirection : Direction → Bool
-isDirection t = not (isZero (t .u) && isZero (t .v)) && directionInLimit t
+-- each coefficient is within the limit
+unfoldable pub inRange : Conic → Bool
+inRange h =
+    within coefficientLimit (h .a) && within coefficientLimit (h .b) && within coefficientLimit (h .c) &&
+    within coefficientLimit (h .d) && within coefficientLimit (h .e) && within coefficientLimit (h .f)
 
 -- what follows, or by `refuse` the first of 1, 2, 5, 6
 unfoldable pub fromBase : {A : Type 0} → (ℕ → A) → Conic → Point → A → A

@@ -1,7 +1,7 @@
 -- A conic's polynomial G over all whole numbers, its three partial derivatives, L, the second point of a line, and the paper's D, Δ
 -- and k. Assumes nothing.
 use lib.IntN.{ℤ, pos, _+ℤ_, _-ℤ_, _*ℤ_}
-use Rattle.conic.specs.declared.point.Point.{Point}
+use Rattle.point.specs.declared.Point.{Point}
 use Rattle.conic.specs.declared.conic.Conic.{Conic}
 
 -- G = ax² + bxy + cy² + dxz + eyz + fz²

@@ -1,9 +1,10 @@
--- The sizes within which the machine's arithmetic is exact: the conic's coefficients by the paper's limit, a point's numbers by a
--- given one. Assumes nothing.
-use Prim.Native.Nat.{ℕ, _+_, _*_, _^_, _≤_, _<_}
+-- The sizes within which the conic's polynomials are exact: its coefficients by the paper's limit, a point's numbers by another.
+-- Assumes nothing.
+use Prim.Native.Nat.{_+_, _*_, _^_, _≤_, _<_}
 use lib.IntN.{ℤ, natAbs}
-use Rattle.conic.specs.Paper.{coefficientLimit, pointLimit, directionLimit}
-use Rattle.conic.specs.declared.point.Point.{Point}
+use Rattle.point.specs.Paper.{coefficientLimit, pointLimit}
+use Rattle.point.specs.Sizes.{PointWithin, LineWithin}
+use Rattle.point.specs.declared.Point.{Point}
 use Rattle.conic.specs.declared.conic.Conic.{Conic}
 
 -- the sum of three products fits, whatever the signs
@@ -19,22 +20,10 @@ pub record InLimit (h : Conic) : Type 0 where
   pub e-within : natAbs (h .e) ≤ coefficientLimit
   pub f-within : natAbs (h .f) ≤ coefficientLimit
 
--- each number of the point is at most n
-pub record PointWithin (n : ℕ) (p : Point) : Type 0 where
-  pub x-within : natAbs (p .x) ≤ n
-  pub y-within : natAbs (p .y) ≤ n
-  pub z-within : natAbs (p .z) ≤ n
-
 -- a conic and a point at which its polynomial fits
 pub record ConicAt (h : Conic) (p : Point) : Type 0 where
   pub conic : InLimit h
   pub point : PointWithin pointLimit p
-
--- T, a direction (z = 0) or a trial line (z = 1)
-pub record LineWithin (t : Point) : Type 0 where
-  pub x-within : natAbs (t .x) ≤ directionLimit
-  pub y-within : natAbs (t .y) ≤ directionLimit
-  pub z-within : natAbs (t .z) ≤ 1
 
 -- a conic, a point S and a line T from it
 pub record ConicAlong (h : Conic) (s t : Point) : Type 0 where

@@ -1,8 +1,8 @@
 // A conic with a base point on it, and the refusals of others.
 use crate::conic::Conic;
-use crate::paper::Refusal;
-use crate::point::Point;
-use crate::size;
+use point::Point;
+use point::paper::Refusal;
+use point::size;
 ghost use mathlib.Core.Path.{_≡_};
 ghost use Rattle.conic.specs.Base.{judged, judgedOf};
 

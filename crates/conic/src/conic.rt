@@ -1,10 +1,10 @@
 // A conic: the row of its six coefficients; its polynomial G, the partial derivatives, L, D, Δ and k.
-use crate::paper::COEFFICIENT_LIMIT;
-use crate::point::Point;
-use crate::size;
+use point::Point;
+use point::paper::COEFFICIENT_LIMIT;
+use point::size;
 ghost use mathlib.Core.Path.{_≡_};
 ghost use lib.IntN.{_*ℤ_, _+ℤ_};
-ghost use Rattle.conic.specs.Paper.{inRange};
+ghost use Rattle.conic.specs.Base.{inRange};
 ghost use Rattle.conic.specs.Form.{G, Gx, Gy, Gz, L, D, Δ, k, drawn};
 ghost use Rattle.conic.specs.Sizes.{ProductsFit, InLimit, ConicAt, ConicAlong};
 

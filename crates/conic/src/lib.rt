@@ -1,7 +1,4 @@
-// Conics with whole coefficients, their points and directions, and bases on them.
+// Conics with whole coefficients, lines through their points, and bases on them.
 pub mod base;
 pub mod conic;
 pub mod line;
-pub mod paper;
-pub mod point;
-pub mod size;

@@ -1,8 +1,8 @@
 // Lines through a point of a conic.
 use crate::conic::Conic;
-use crate::point::Point;
+use point::Point;
 ghost use mathlib.Core.Path.{_≡_};
-ghost use Rattle.conic.specs.Normal.{normal};
+ghost use Rattle.point.specs.Normal.{normal};
 ghost use Rattle.conic.specs.Sizes.{ConicAlong};
 ghost use Rattle.conic.specs.Form.{drawn};
 

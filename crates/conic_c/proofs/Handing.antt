@@ -5,12 +5,12 @@ use mathlib.Core.Path.{_≡_, refl}
 use Prim.Native.Nat.{ℕ, _≤_}
 use lib.Dec.{lit≤}
 use lib.IntN.{ℤ}
-use Rattle.conic.specs.Paper.{number}
+use Rattle.point.specs.Paper.{number}
+use Rattle.point.specs.declared.paper.Refusal.{Refusal}
+use Rattle.point.specs.declared.paper.Refusal.the-variants as Refusal
+use Rattle.point.specs.declared.Direction.{Direction}
+use Rattle.point.specs.declared.Point.{Point}
 use Rattle.conic.specs.declared.conic.Conic.{Conic}
-use Rattle.conic.specs.declared.paper.Refusal.{Refusal}
-use Rattle.conic.specs.declared.paper.Refusal.the-variants as Refusal
-use Rattle.conic.specs.declared.point.Direction.{Direction}
-use Rattle.conic.specs.declared.point.Point.{Point}
 use Rattle.solve.specs.Answer.{reasonGiven, solved}
 use Rattle.solve.specs.Solve.{SolvePromise}
 use Rattle.solve.specs.declared.Reason.{Reason}

@@ -4,10 +4,11 @@ use mathlib.Core.Bool.{Bool, true, false, cond}
 use mathlib.Core.Path.{_≡_, refl, sym, _∙_}
 use Prim.Native.Nat.{ℕ}
 use native.Mathlib.Omega.{arith}
-use Rattle.conic.specs.Base.{fromBase, isBase, isDirection}
+use Rattle.point.specs.Legal.{isBase, isDirection}
+use Rattle.point.specs.Paper.{Verdict, point, none-by-sign, none-by-prime, refusal, isZero}
+use Rattle.point.specs.declared.Point.{Point}
+use Rattle.conic.specs.Base.{fromBase, inRange}
 use Rattle.conic.specs.Form.{G, Δ}
-use Rattle.conic.specs.Paper.{Verdict, point, none-by-sign, none-by-prime, refusal, inRange, isZero}
-use Rattle.conic.specs.declared.point.Point.{Point}
 use Rattle.direction.specs.Direction.{pointOf, pointFrom}
 use Rattle.conic_c.specs.Theorems.{ConicSolveIsOne, ConicPointIsOne, ConicDirectionIsOne, ConicRowIsOne, ConicBookWriteIsOne, ConicBookReadIsOne, DirectionGivesNoNone}
 

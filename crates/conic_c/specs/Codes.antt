@@ -1,7 +1,7 @@
 -- The code that an exported function returns: an answer is 0 or more, a refusal minus the paper's number. Assumes nothing.
 use Prim.Native.Nat.{ℕ}
 use lib.IntN.{ℤ, pos, negℤ}
-use Rattle.conic.specs.Paper.{Verdict, point, none-by-sign, none-by-prime, refusal}
+use Rattle.point.specs.Paper.{Verdict, point, none-by-sign, none-by-prime, refusal}
 use Rattle.direction.specs.Direction.{Bearing, direction, no-direction}
 use Rattle.row.specs.Row.{RowAnswer, row-length, no-row}
 use Rattle.book.specs.Writer.{WriterAnswer, book-length, no-book}

@@ -4,10 +4,10 @@ use mathlib.Core.List.{List, [], _∷_}
 use mathlib.Core.Path.{_≡_}
 use Prim.Native.Nat.{ℕ}
 use lib.IntN.{ℤ}
-use Rattle.conic.specs.Paper.{Verdict, point, none-by-sign, none-by-prime, refusal}
+use Rattle.point.specs.Paper.{Verdict, point, none-by-sign, none-by-prime, refusal}
+use Rattle.point.specs.declared.Point.{Point}
+use Rattle.point.specs.declared.Direction.{Direction}
 use Rattle.conic.specs.declared.conic.Conic.{Conic}
-use Rattle.conic.specs.declared.point.Point.{Point}
-use Rattle.conic.specs.declared.point.Direction.{Direction}
 use Rattle.solve.specs.Answer.{reasonGiven}
 use Rattle.solve.specs.declared.Reason.{Reason}
 use Rattle.direction.specs.Direction.{Bearing, direction, no-direction}

@@ -6,9 +6,9 @@ use mathlib.Core.Path.{_≡_}
 use Prim.Native.Nat.{ℕ}
 use lib.IntN.{ℤ}
 use lib.ListN.{length, drop}
+use Rattle.point.specs.declared.Point.{Point}
+use Rattle.point.specs.declared.Direction.{Direction}
 use Rattle.conic.specs.declared.conic.Conic.{Conic}
-use Rattle.conic.specs.declared.point.Point.{Point}
-use Rattle.conic.specs.declared.point.Direction.{Direction}
 use Rattle.solve.specs.Solve.{solveOf}
 use Rattle.direction.specs.Direction.{pointOf, directionOf}
 use Rattle.row.specs.Row.{rowOf, tooShort, row-length, no-row}

@@ -4,10 +4,10 @@ use mathlib.Core.List.{List}
 use mathlib.Core.Path.{_≡_}
 use Prim.Native.Nat.{ℕ}
 use lib.IntN.{ℤ}
-use Rattle.conic.specs.Paper.{none-by-sign, none-by-prime}
+use Rattle.point.specs.Paper.{none-by-sign, none-by-prime}
+use Rattle.point.specs.declared.Direction.{Direction}
+use Rattle.point.specs.declared.Point.{Point}
 use Rattle.conic.specs.declared.conic.Conic.{Conic}
-use Rattle.conic.specs.declared.point.Direction.{Direction}
-use Rattle.conic.specs.declared.point.Point.{Point}
 use Rattle.direction.specs.Direction.{pointOf}
 use Rattle.conic_c.specs.Promises.{ConicSolve, ConicPoint, ConicDirection, ConicRow, ConicBookWrite, ConicBookRead}
 

@@ -2,10 +2,10 @@
 // minus the paper's number; exactly the places named for a code are written.
 use book::Entry;
 use conic::conic::Conic;
-use conic::point::Direction;
-use conic::point::Point;
 use direction::Directed;
 use direction::Reached;
+use point::Direction;
+use point::Point;
 use solve::Solved;
 ghost use Rattle.conic_c.specs.Promises.{ConicSolve, ConicPoint, ConicDirection, ConicRow, ConicBookWrite, ConicBookRead};
 

@@ -1,13 +1,13 @@
 // An answer into lent places, and its code.
 use book::Stored;
 use conic::conic::Conic;
-use conic::paper::Refusal;
-use conic::point::Direction;
-use conic::point::Point;
+use point::Direction;
+use point::Point;
+use point::paper::Refusal;
 use solve::Answer;
 use solve::Reason;
 ghost use mathlib.Core.Path.{_≡_};
-ghost use Rattle.conic.specs.Paper.{number};
+ghost use Rattle.point.specs.Paper.{number};
 ghost use Rattle.solve.specs.Answer.{answered};
 ghost use Rattle.book.specs.Reader.{stored};
 ghost use Rattle.conic_c.specs.Codes.{refused};

@@ -1,9 +1,9 @@
 // A row's parts, in the paper's words.
 use conic::conic::Conic;
-use conic::paper::Refusal;
-use conic::point::Direction;
-use conic::point::Point;
 use libc::STDOUT_FILENO;
+use point::Direction;
+use point::Point;
+use point::paper::Refusal;
 use solve::Answer;
 use solve::Reason;
 

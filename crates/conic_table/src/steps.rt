@@ -5,11 +5,11 @@ use crate::print::print_direction;
 use crate::print::print_point;
 use crate::print::print_refusal;
 use conic::conic::Conic;
-use conic::point::Direction;
-use conic::point::Point;
 use direction::Directed;
 use direction::Reached;
 use libc::STDOUT_FILENO;
+use point::Direction;
+use point::Point;
 
 const CIRCLE: Conic = Conic {
     a: 1,

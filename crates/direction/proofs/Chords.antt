@@ -8,12 +8,12 @@ use Rattle.whole.proofs.Laws.{equal-of-difference}
 use Rattle.whole.proofs.Ring.{by-ring, reify}
 use Rattle.whole.proofs.Combination.{combine, _⊞_, _⊠_}
 use Rattle.whole.proofs.Products.{*ℤ-cancel}
+use Rattle.point.specs.Normal.{atInfinity}
+use Rattle.point.specs.declared.Point.{Point}
+use Rattle.point.specs.declared.Direction.{Direction}
+use Rattle.point.proofs.Vector.{scaled, line, same-point, Proportional}
 use Rattle.conic.specs.Form.{G, Gx, Gy, Gz, L, Δ, drawn}
-use Rattle.conic.specs.Normal.{atInfinity}
-use Rattle.conic.specs.declared.point.Point.{Point}
-use Rattle.conic.specs.declared.point.Direction.{Direction}
 use Rattle.conic.specs.declared.conic.Conic.{Conic}
-use Rattle.conic.proofs.Vector.{scaled, line, same-point, Proportional}
 use Rattle.conic.proofs.Form.{G-line, L-self, L-symmetric, L-line}
 use Rattle.conic.proofs.Gram.{at-infinity-if-flat}
 use Rattle.direction.specs.Direction.{tangent, chord}

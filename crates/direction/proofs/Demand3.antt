@@ -5,13 +5,14 @@ use mathlib.Core.Logic.{_↔_}
 use mathlib.Core.Bool.{true, false, cond}
 use Prim.Native.Nat.{ℕ}
 use Rattle.number.proofs.Least.{true-of-T}
+use Rattle.point.specs.Paper.{point, refusal, isZero}
+use Rattle.point.specs.Legal.{isBase, isTarget, isDirection}
+use Rattle.point.specs.declared.Point.{Point}
+use Rattle.point.specs.declared.Direction.{Direction}
+use Rattle.point.proofs.Tests.{isZero-iff, isZero-not}
 use Rattle.conic.specs.Form.{G, Δ}
-use Rattle.conic.specs.Paper.{point, refusal, inRange, isZero}
-use Rattle.conic.specs.Base.{isBase, isTarget, isDirection, fromBase, LegalBase}
-use Rattle.conic.specs.declared.point.Point.{Point}
-use Rattle.conic.specs.declared.point.Direction.{Direction}
+use Rattle.conic.specs.Base.{inRange, fromBase, LegalBase}
 use Rattle.conic.specs.declared.conic.Conic.{Conic}
-use Rattle.conic.proofs.Tests.{isZero-iff, isZero-not}
 use Rattle.direction.specs.Direction.{direction, no-direction, pointFrom, directionTo, tangent, pointOf, directionOf}
 use Rattle.direction.specs.Demand3.{OnConic, Based, Proper, Multiples, StepsAreRight, TangentGivesBase, SamePointExactly, EveryPointOnce, StepsUndo, EntriesGiveSteps}
 use Rattle.direction.proofs.Directions.{normal-direction-proper, normalDirection-of-normal, multiples-iff}

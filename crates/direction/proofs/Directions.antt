@@ -8,10 +8,10 @@ use Rattle.whole.proofs.Ring.{by-ring, reify}
 use Rattle.whole.proofs.Combination.{combine, _⊞_, _⊠_}
 use Rattle.whole.proofs.Products.{*ℤ-cancel}
 use Rattle.whole.proofs.Cancel.{other-factor-zero}
-use Rattle.conic.specs.Normal.{normal, NormalForm, atInfinity, normalDirection, NormalDirection}
-use Rattle.conic.specs.declared.point.Direction.{Direction}
-use Rattle.conic.proofs.Vector.{same-point, Zero, Proportional}
-use Rattle.conic.proofs.Normal.{normal-is-normal-form, normal-form-not-zero, normal-of-normal-form, normal-equal-iff, normal-at-infinity}
+use Rattle.point.specs.Normal.{normal, NormalForm, atInfinity, normalDirection, NormalDirection}
+use Rattle.point.specs.declared.Direction.{Direction}
+use Rattle.point.proofs.Vector.{same-point, Zero, Proportional}
+use Rattle.point.proofs.Normal.{normal-is-normal-form, normal-form-not-zero, normal-of-normal-form, normal-equal-iff, normal-at-infinity}
 use Rattle.direction.specs.Demand3.{Proper, Multiples}
 
 -- k·T

@@ -7,12 +7,12 @@ use lib.IntN.{ℤ, pos, negsuc, negℤ, _-ℤ_, _*ℤ_, *ℤ-comm, *ℤ-zero}
 use Rattle.whole.proofs.Ring.{by-ring, reify}
 use Rattle.whole.proofs.Combination.{combine, _⊞_, _⊠_}
 use Rattle.whole.proofs.Cancel.{other-factor-zero}
+use Rattle.point.specs.Normal.{atInfinity}
+use Rattle.point.specs.declared.Point.{Point}
+use Rattle.point.specs.declared.Direction.{Direction}
+use Rattle.point.proofs.Vector.{scaled, same-point, Zero, Proportional}
 use Rattle.conic.specs.Form.{G, L, Δ, drawn}
-use Rattle.conic.specs.Normal.{atInfinity}
-use Rattle.conic.specs.declared.point.Point.{Point}
-use Rattle.conic.specs.declared.point.Direction.{Direction}
 use Rattle.conic.specs.declared.conic.Conic.{Conic}
-use Rattle.conic.proofs.Vector.{scaled, same-point, Zero, Proportional}
 use Rattle.conic.proofs.Form.{G-scaled, L-scaled}
 use Rattle.conic.proofs.Gram.{unseen-proportional}
 use Rattle.direction.specs.Demand3.{Proper}

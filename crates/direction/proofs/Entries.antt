@@ -2,13 +2,14 @@
 use mathlib.Core.Path.{_≡_, refl, _∙_}
 use mathlib.Core.Bool.{true, false}
 use Prim.Native.Nat.{ℕ}
-use Rattle.conic.specs.Base.{isTarget, isDirection, legal, refused, judgedOf}
+use Rattle.point.specs.Legal.{isTarget, isDirection}
+use Rattle.point.specs.Paper.{point, refusal, isZero}
+use Rattle.point.specs.declared.Point.{Point}
+use Rattle.point.specs.declared.Direction.{Direction}
+use Rattle.point.proofs.Cases.{when, unless}
+use Rattle.conic.specs.Base.{legal, refused, judgedOf}
 use Rattle.conic.specs.Form.{G}
-use Rattle.conic.specs.Paper.{point, refusal, isZero}
-use Rattle.conic.specs.declared.point.Point.{Point}
-use Rattle.conic.specs.declared.point.Direction.{Direction}
 use Rattle.conic.specs.declared.conic.Conic.{Conic}
-use Rattle.conic.proofs.Cases.{when, unless}
 use Rattle.conic.proofs.Legal.{settle}
 use Rattle.direction.specs.Direction.{pointFrom, directionTo, pointOf, directionOf, direction, no-direction}
 

@@ -1,12 +1,12 @@
 -- The promises of the two entries determine their answers, which can be told from what they stand for in the paper. Assumes nothing.
 use mathlib.Core.Path.{_≡_, refl, sym, ap, _∙_}
-use Rattle.conic.specs.Paper.{Verdict, point, none-by-sign, none-by-prime, refusal}
-use Rattle.conic.specs.declared.paper.Refusal.{Refusal}
-use Rattle.conic.specs.declared.paper.Refusal.the-variants as Refusal
-use Rattle.conic.specs.declared.point.Point.{Point}
-use Rattle.conic.specs.declared.point.Direction.{Direction}
+use Rattle.point.specs.Paper.{Verdict, point, none-by-sign, none-by-prime, refusal}
+use Rattle.point.specs.declared.paper.Refusal.{Refusal}
+use Rattle.point.specs.declared.paper.Refusal.the-variants as Refusal
+use Rattle.point.specs.declared.Point.{Point}
+use Rattle.point.specs.declared.Direction.{Direction}
+use Rattle.point.proofs.Promise.{told-apart, numbered, numbered-number}
 use Rattle.conic.specs.declared.conic.Conic.{Conic}
-use Rattle.conic.proofs.Promise.{told-apart, numbered, numbered-number}
 use Rattle.direction.specs.Direction.{PointPromise, DirectionPromise, Bearing, direction, no-direction, reached, directed}
 use Rattle.direction.specs.declared.Reached.{Reached}
 use Rattle.direction.specs.declared.Reached.the-variants as Reached

@@ -4,16 +4,18 @@ use mathlib.Core.Path.{_≡_}
 use mathlib.Core.Bool.{true, not, _&&_, cond, and-eq-true-iff}
 use Prim.Native.Nat.{zero-le}
 use Rattle.whole.proofs.Signed.{sizes, bounds}
-use Rattle.conic.specs.Base.{LegalBase, isDirection}
-use Rattle.conic.specs.Normal.{largest, atInfinity}
-use Rattle.conic.specs.Paper.{pointLimit, directionInLimit, isZero}
-use Rattle.conic.specs.Sizes.{PointWithin, ConicAt, ConicAlong}
-use Rattle.conic.specs.declared.point.Point.{Point}
-use Rattle.conic.specs.declared.point.Direction.{Direction}
+use Rattle.point.specs.Legal.{isDirection}
+use Rattle.point.specs.Normal.{largest, atInfinity}
+use Rattle.point.specs.Paper.{pointLimit, directionInLimit, isZero}
+use Rattle.point.specs.Sizes.{PointWithin}
+use Rattle.point.specs.declared.Point.{Point}
+use Rattle.point.specs.declared.Direction.{Direction}
+use Rattle.point.proofs.Cases.{cond-cases}
+use Rattle.point.proofs.Limits.{direction-in-limit}
+use Rattle.conic.specs.Base.{LegalBase}
+use Rattle.conic.specs.Sizes.{ConicAt, ConicAlong}
 use Rattle.conic.specs.declared.conic.Conic.{Conic}
 use Rattle.conic.proofs.Bounds.{formSizes}
-use Rattle.conic.proofs.Cases.{cond-cases}
-use Rattle.conic.proofs.Limits.{direction-in-limit}
 use Rattle.conic.proofs.Legal.{at-base}
 use Rattle.direction.specs.Direction.{isSame, tangent, chord}
 

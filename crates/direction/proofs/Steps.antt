@@ -10,13 +10,14 @@ use Rattle.whole.proofs.Ring.{by-ring, reify}
 use Rattle.whole.proofs.Combination.{combine, _⊠_}
 use Rattle.whole.proofs.Cancel.{other-factor-zero, product-not-zero}
 use Rattle.number.proofs.Least.{true-or-false, not-true-of-false}
+use Rattle.point.specs.Normal.{normal, NormalForm, NormalDirection, atInfinity, normalDirection}
+use Rattle.point.specs.declared.Point.{Point}
+use Rattle.point.specs.declared.Direction.{Direction}
+use Rattle.point.proofs.Vector.{scaled, Zero, zero-scaled}
+use Rattle.point.proofs.Normal.{signedFactor, signedFactor-not-zero, factor-times-normal, normal-is-normal-form, normal-form-not-zero, normal-scaled, normal-of-normal-form, normal-forms-equal}
 use Rattle.conic.specs.Form.{G, Gx, Gy, L, drawn}
-use Rattle.conic.specs.Normal.{normal, NormalForm, NormalDirection, atInfinity, normalDirection}
-use Rattle.conic.specs.declared.point.Point.{Point}
-use Rattle.conic.specs.declared.point.Direction.{Direction}
 use Rattle.conic.specs.declared.conic.Conic.{Conic}
-use Rattle.conic.proofs.Vector.{scaled, Zero, zero-scaled}
-use Rattle.conic.proofs.Normal.{signedFactor, signedFactor-not-zero, factor-times-normal, normal-is-normal-form, normal-form-not-zero, normal-scaled, normal-of-normal-form, normal-forms-equal, normal-on-iff}
+use Rattle.conic.proofs.Form.{normal-on-iff}
 use Rattle.conic.proofs.Drawn.{drawn-on}
 use Rattle.direction.specs.Direction.{pointFrom, tangent, chord, isSame, directionTo}
 use Rattle.direction.specs.Demand3.{OnConic, Based, Proper, Multiples}

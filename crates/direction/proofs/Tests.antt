@@ -6,12 +6,13 @@ use lib.IntN.{ℤ, pos, _-ℤ_, +ℤ-invr}
 use lib.Signed.{ltZ, ltZ-yes}
 use Rattle.whole.proofs.Laws.{equal-of-difference}
 use Rattle.number.proofs.Least.{true-of-T, T-of-true, false-of-not-true}
-use Rattle.conic.specs.Paper.{pointInLimit, isZero}
-use Rattle.conic.specs.Base.{isNormal, isBase, LegalBase}
-use Rattle.conic.specs.declared.point.Point.{Point}
+use Rattle.point.specs.Paper.{pointInLimit, isZero}
+use Rattle.point.specs.Legal.{isNormal, isBase}
+use Rattle.point.specs.declared.Point.{Point}
+use Rattle.point.proofs.Vector.{same-point}
+use Rattle.point.proofs.Tests.{isZero-iff, isNormal-iff}
+use Rattle.conic.specs.Base.{LegalBase}
 use Rattle.conic.specs.declared.conic.Conic.{Conic}
-use Rattle.conic.proofs.Vector.{same-point}
-use Rattle.conic.proofs.Tests.{isZero-iff, isNormal-iff}
 use Rattle.direction.specs.Direction.{isSame}
 use Rattle.direction.specs.Demand3.{Based}
 

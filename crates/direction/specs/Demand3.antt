@@ -5,12 +5,13 @@ use mathlib.Core.Logic.{_↔_}
 use lib.Dec.{T}
 use lib.IntN.{pos, _*ℤ_}
 use lib.Signed.{_<ℤ_}
+use Rattle.point.specs.Normal.{NormalForm, NormalDirection}
+use Rattle.point.specs.Paper.{point}
+use Rattle.point.specs.Legal.{isTarget, isDirection}
+use Rattle.point.specs.declared.Point.{Point}
+use Rattle.point.specs.declared.Direction.{Direction}
 use Rattle.conic.specs.Form.{G, Δ}
-use Rattle.conic.specs.Normal.{NormalForm, NormalDirection}
-use Rattle.conic.specs.Paper.{point}
-use Rattle.conic.specs.Base.{isTarget, isDirection, LegalBase}
-use Rattle.conic.specs.declared.point.Point.{Point}
-use Rattle.conic.specs.declared.point.Direction.{Direction}
+use Rattle.conic.specs.Base.{LegalBase}
 use Rattle.conic.specs.declared.conic.Conic.{Conic}
 use Rattle.direction.specs.Direction.{direction, pointFrom, directionTo, tangent, pointOf, directionOf}
 

@@ -4,12 +4,13 @@ use mathlib.Core.Bool.{Bool, _&&_, cond}
 use Prim.Native.Nat.{ℕ}
 use lib.IntN.{negℤ, _-ℤ_, _*ℤ_}
 use mathlib.Core.Path.{_≡_}
+use Rattle.point.specs.Normal.{normal, normalDirection, atInfinity}
+use Rattle.point.specs.Paper.{Verdict, point, refusal, isZero, number}
+use Rattle.point.specs.Legal.{isTarget, isDirection}
+use Rattle.point.specs.declared.Point.{Point}
+use Rattle.point.specs.declared.Direction.{Direction}
 use Rattle.conic.specs.Form.{G, Gx, Gy, drawn}
-use Rattle.conic.specs.Normal.{normal, normalDirection, atInfinity}
-use Rattle.conic.specs.Paper.{Verdict, point, refusal, isZero, number}
-use Rattle.conic.specs.Base.{isTarget, isDirection, fromBase}
-use Rattle.conic.specs.declared.point.Point.{Point}
-use Rattle.conic.specs.declared.point.Direction.{Direction}
+use Rattle.conic.specs.Base.{fromBase}
 use Rattle.conic.specs.declared.conic.Conic.{Conic}
 use Rattle.direction.specs.declared.Reached.{Reached}
 use Rattle.direction.specs.declared.Reached.the-variants as Reached

@@ -3,16 +3,17 @@ use conic::base::Judged;
 use conic::base::judge;
 use conic::conic::Conic;
 use conic::line;
-use conic::paper::Refusal;
-use conic::point::Direction;
-use conic::point::Point;
-use conic::size;
+use point::Direction;
+use point::Point;
+use point::paper::Refusal;
+use point::size;
 ghost use mathlib.Core.Path.{_≡_};
 ghost use mathlib.Core.Bool.{cond};
 ghost use Rattle.direction.specs.Direction.{isSame, tangent, chord, pointFrom, directionTo, PointPromise, DirectionPromise};
-ghost use Rattle.conic.specs.Normal.{atInfinity};
-ghost use Rattle.conic.specs.Paper.{pointLimit};
-ghost use Rattle.conic.specs.Sizes.{PointWithin, ConicAt, ConicAlong};
+ghost use Rattle.point.specs.Normal.{atInfinity};
+ghost use Rattle.point.specs.Paper.{pointLimit};
+ghost use Rattle.point.specs.Sizes.{PointWithin};
+ghost use Rattle.conic.specs.Sizes.{ConicAt, ConicAlong};
 
 // The point that a base's direction leads to.
 pub enum Reached {

@@ -3,9 +3,9 @@ use mathlib.Core.Path.{_≡_, refl, sym, ap, _∙_}
 use mathlib.Core.List.{List, [], _∷_}
 use Prim.Native.Nat.{ℕ}
 use lib.ListN.{getD}
-use Rattle.conic.specs.Paper.{number}
-use Rattle.conic.specs.declared.paper.Refusal.{Refusal}
-use Rattle.conic.specs.declared.paper.Refusal.the-variants as Refusal
+use Rattle.point.specs.Paper.{number}
+use Rattle.point.specs.declared.paper.Refusal.{Refusal}
+use Rattle.point.specs.declared.paper.Refusal.the-variants as Refusal
 use Rattle.row.specs.Row.{RowAnswer, row-length, no-row, written}
 use Rattle.row.specs.Theorems.{PromiseIsOne}
 use Rattle.row.specs.declared.Written.{Written}

@@ -7,8 +7,8 @@ use native.Mathlib.Nat.{lt-of-le-of-lt}
 use native.Mathlib.Omega.{arith}
 use lib.Dec.{lit<, lit≤}
 use lib.IntN.{ℤ, pos, negsuc}
-use Rattle.conic.specs.Paper.{point, none-by-sign, none-by-prime, refusal}
-use Rattle.conic.specs.declared.point.Point.{Point}
+use Rattle.point.specs.Paper.{point, none-by-sign, none-by-prime, refusal}
+use Rattle.point.specs.declared.Point.{Point}
 use Rattle.row.specs.Reading.{space, minus}
 use Rattle.row.specs.Writing.{lineFeed, decimal, signedDecimal, rowText}
 use Rattle.row.specs.Theorems.{RowTellsAnswer}

@@ -18,10 +18,11 @@ use Rattle.number.proofs.Gcd.{zero-gcd, gcd-divides-left}
 use Rattle.legendre.specs.Outcome.{isOneSign, leastFailing, primeLimit, outcomeOf, chosen}
 use Rattle.legendre.specs.declared.outcome.Outcome.{Outcome}
 use Rattle.legendre.specs.declared.outcome.Outcome.the-variants.{Sign, Prime, Solution}
+use Rattle.point.specs.Paper.{Verdict, point, none-by-sign, none-by-prime, refusal, pointLimit, isZero}
+use Rattle.point.specs.declared.Point.{Point}
 use Rattle.conic.specs.Form.{D, Δ}
-use Rattle.conic.specs.Paper.{Verdict, point, none-by-sign, none-by-prime, refusal, pointLimit, inRange, isZero}
+use Rattle.conic.specs.Base.{inRange}
 use Rattle.conic.specs.declared.conic.Conic.{Conic}
-use Rattle.conic.specs.declared.point.Point.{Point}
 use Rattle.conic.proofs.Sizes.{limit-D, limit-aΔ, in-limit, D-size, aΔ-size}
 use Rattle.solve.specs.Demand2.{NonDegenerate, RightPoint, PointIsRight}
 use Rattle.solve.specs.Level.{levelFrom, levelOf, carriedBack}

@@ -1,7 +1,7 @@
 -- The row text of a refusal and of a point; of the other answers, nothing. Assumes nothing.
 use mathlib.Core.List.{List, []}
 use Prim.Native.Nat.{ℕ}
-use Rattle.conic.specs.Paper.{point, refusal, number}
+use Rattle.point.specs.Paper.{point, refusal, number}
 use Rattle.solve.specs.declared.Answer.{Answer}
 use Rattle.solve.specs.declared.Answer.the-variants as Answer
 use Rattle.solve.specs.declared.Solved.{Solved}

@@ -5,7 +5,7 @@ use mathlib.Core.Option.{none}
 use mathlib.Core.Path.{_≡_}
 use Prim.Native.Nat.{ℕ, _≤_, _<_}
 use lib.ListN.{length}
-use Rattle.conic.specs.Paper.{Verdict}
+use Rattle.point.specs.Paper.{Verdict}
 use Rattle.row.specs.Reading.{readRow}
 use Rattle.row.specs.Writing.{rowText}
 use Rattle.row.specs.Row.{RowPromise, rowOf, bufferLimit}

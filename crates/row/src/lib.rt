@@ -1,5 +1,5 @@
 // A row of digits in, a row of text out.
-use conic::paper::Refusal;
+use point::paper::Refusal;
 ghost use Rattle.row.specs.Row.{RowPromise};
 
 mod answer;

@@ -9,7 +9,7 @@ use native.Mathlib.Omega.{arith}
 use borrow.Author.Tests.{lt-ltb, le-ltb}
 use lib.ListN.{length, take, length-take}
 use lib.Seq.{take-all, take-length}
-use Rattle.conic.specs.declared.paper.Refusal.the-variants as Refusal
+use Rattle.point.specs.declared.paper.Refusal.the-variants as Refusal
 use Rattle.row.specs.Row.{rowOf, bufferLimit, tooShort, RowPromise}
 use Rattle.row.specs.declared.Written.{Written}
 use Rattle.row.specs.declared.Written.the-variants as Written

@@ -9,7 +9,7 @@ use borrow.Author.Tests.{ltb-true, ltb-false}
 use borrow.Rule.Slice.PartMut.{midOf, putMid, post-is}
 use lib.ListN.{length, take, drop, length-append, length-drop, take-append-drop}
 use lib.Seq.{drop-drop, drop-at, drop-length, take-at, take-all, length-take-le}
-use Rattle.conic.specs.declared.paper.Refusal.{Refusal}
+use Rattle.point.specs.declared.paper.Refusal.{Refusal}
 use Rattle.row.specs.Row.{rowOf, bufferLimit, tooShort, row-length, no-row, RowPromise}
 use Rattle.row.specs.declared.Written.{Written}
 use Rattle.row.specs.declared.Written.the-variants as Written

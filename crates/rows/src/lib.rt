@@ -1,5 +1,5 @@
 // Input of any length, cut into rows at line feeds and answered row by row.
-use conic::paper::Refusal;
+use point::paper::Refusal;
 use row::BUFFER_LIMIT;
 use row::Written;
 ghost use mathlib.Core.Path.{_≡_};

@@ -8,9 +8,10 @@ use Rattle.number.specs.Residue.{leastRootOf, isSquareModulo}
 use Rattle.number.specs.Square.{rootOf, isSquare}
 use Rattle.number.specs.Squarefree.{squarePart, freePart}
 use Rattle.legendre.specs.Outcome.{isOneSign, holdsFor, failsAt, primeLimit, leastFailing, side, solves, leastY, leastX, leastW, chosen, outcomeOf}
+use Rattle.point.specs.Normal.{normal, over, signed, leading, orElse, commonFactor}
+use Rattle.point.specs.Paper.{within, isZero}
 use Rattle.conic.specs.Form.{G, L, D, Δ, k, Gx, Gy, Gz, drawn}
-use Rattle.conic.specs.Normal.{normal, over, signed, leading, orElse, commonFactor}
-use Rattle.conic.specs.Paper.{inRange, within, isZero}
+use Rattle.conic.specs.Base.{inRange}
 use Rattle.solve.specs.Bench.{StarredExamples}
 use Rattle.solve.specs.Level.{levelOf, levelFrom, primed, fromPrimed, carriedBack}
 use Rattle.solve.specs.Solve.{solveOf, isSquareNumber, trialLine, startAtInfinity, fromInfinity, outcomeCarried, solveLevelled, solveNonDegenerate}

@@ -7,10 +7,11 @@ use lib.Dec.{lit≤}
 use Rattle.whole.proofs.Order.{pos-<}
 use Rattle.legendre.specs.Equation.{BoxSolution}
 use Rattle.legendre.specs.declared.outcome.Triple.{Triple}
+use Rattle.point.specs.Paper.{pointLimit, isZero}
+use Rattle.point.specs.Sizes.{PointWithin, LineWithin}
+use Rattle.point.specs.declared.Point.{Point}
 use Rattle.conic.specs.Form.{L}
-use Rattle.conic.specs.Paper.{pointLimit, isZero}
-use Rattle.conic.specs.Sizes.{InLimit, PointWithin, LineWithin, ConicAlong}
-use Rattle.conic.specs.declared.point.Point.{Point}
+use Rattle.conic.specs.Sizes.{InLimit, ConicAlong}
 use Rattle.conic.specs.declared.conic.Conic.{Conic}
 use Rattle.solve.specs.Level.{levelOf}
 use Rattle.solve.specs.Solve.{firstLine, secondLine, thirdLine, startAtInfinity, trialLine}

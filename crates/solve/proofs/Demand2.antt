@@ -16,17 +16,21 @@ use Rattle.legendre.specs.declared.outcome.Triple.{Triple}
 use Rattle.legendre.specs.declared.outcome.Outcome.{Outcome}
 use Rattle.legendre.specs.declared.outcome.Outcome.the-variants as Outcome
 use Rattle.legendre.proofs.Answer as Legendre
+use Rattle.point.specs.Normal.{orElse, leading, normal}
+use Rattle.point.specs.Paper.{pointLimit, Verdict, point, none-by-sign, none-by-prime, refusal, isZero}
+use Rattle.point.specs.Sizes.{PointWithin}
+use Rattle.point.specs.declared.Point.{Point}
+use Rattle.point.proofs.Normal.{signedFactor, factor-times-normal, normal-is-normal-form}
+use Rattle.point.proofs.Limits.{normal-within}
+use Rattle.point.proofs.Tests.{isZero-not}
+use Rattle.point.proofs.Vector.{Zero}
 use Rattle.conic.specs.Form.{G, D, Δ, drawn}
-use Rattle.conic.specs.Normal.{orElse, leading, normal}
-use Rattle.conic.specs.Paper.{pointLimit, Verdict, point, none-by-sign, none-by-prime, refusal, inRange, isZero}
-use Rattle.conic.specs.Sizes.{InLimit, PointWithin}
-use Rattle.conic.specs.declared.point.Point.{Point}
+use Rattle.conic.specs.Base.{inRange}
+use Rattle.conic.specs.Sizes.{InLimit}
 use Rattle.conic.specs.declared.conic.Conic.{Conic}
 use Rattle.conic.proofs.Drawn.{drawn-on}
-use Rattle.conic.proofs.Normal.{signedFactor, factor-times-normal, normal-is-normal-form, normal-on-iff}
-use Rattle.conic.proofs.Sizes.{in-limit, normal-within}
-use Rattle.conic.proofs.Tests.{isZero-not}
-use Rattle.conic.proofs.Vector.{Zero}
+use Rattle.conic.proofs.Form.{normal-on-iff}
+use Rattle.conic.proofs.Sizes.{in-limit}
 use Rattle.solve.specs.Demand2.{NonDegenerate, HasPoint, PointExactly, RightPoint, PointIsRight, OneSignEverywhere, SignExactly, LevelledBy, PrimeIsTrue, SquareDiscriminant, SquareHasPoint, PointIsChosen}
 use Rattle.solve.specs.Level.{levelOf, primed, fromPrimed, carriedBack}
 use Rattle.solve.specs.Solve.{isSquareNumber, startAtInfinity, trialLine, fromInfinity, outcomeCarried, solveLevelled, solveNonDegenerate, solveOf}

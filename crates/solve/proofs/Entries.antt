@@ -3,12 +3,13 @@ use mathlib.Core.Path.{_≡_, _∙_}
 use mathlib.Core.Bool.{true, false}
 use lib.IntN.{negℤ}
 use Rattle.number.proofs.Least.{T-of-true, not-true-of-false}
+use Rattle.point.specs.Paper.{point, refusal, isZero}
+use Rattle.point.specs.declared.Point.{Point}
+use Rattle.point.proofs.Cases.{when, unless}
+use Rattle.point.proofs.Tests.{isZero-iff}
 use Rattle.conic.specs.Form.{L, D, Δ}
-use Rattle.conic.specs.Paper.{point, refusal, inRange, isZero}
-use Rattle.conic.specs.declared.point.Point.{Point}
+use Rattle.conic.specs.Base.{inRange}
 use Rattle.conic.specs.declared.conic.Conic.{Conic}
-use Rattle.conic.proofs.Cases.{when, unless}
-use Rattle.conic.proofs.Tests.{isZero-iff}
 use Rattle.solve.specs.Demand2.{NonDegenerate}
 use Rattle.solve.specs.Solve.{isSquareNumber, firstLine, secondLine, thirdLine, trialLine, fromInfinity, solveLevelled, solveNonDegenerate, solveOf}
 

@@ -15,16 +15,17 @@ use Rattle.whole.proofs.Signed.{sizes, bounds}
 use Rattle.whole.proofs.Size.{natAbs-neg, natAbs-*, square-is}
 use Rattle.number.specs.Square.{rootOf}
 use Rattle.number.proofs.Square.{root-is, root-of-square, square-law}
+use Rattle.point.specs.Paper.{coefficientLimit, pointLimit, isZero}
+use Rattle.point.specs.Sizes.{PointWithin}
+use Rattle.point.specs.declared.Point.{Point}
+use Rattle.point.proofs.Tests.{isZero-iff, not-zero-of-false}
+use Rattle.point.proofs.Vector.{Zero, unit-x, one-not-zero}
+use Rattle.point.proofs.Cases.{cond-cases}
 use Rattle.conic.specs.Form.{G, Gx, Gy, Gz, L, D, Δ, drawn}
-use Rattle.conic.specs.Paper.{coefficientLimit, pointLimit, isZero}
-use Rattle.conic.specs.Sizes.{InLimit, PointWithin}
-use Rattle.conic.specs.declared.point.Point.{Point}
+use Rattle.conic.specs.Sizes.{InLimit}
 use Rattle.conic.specs.declared.conic.Conic.{Conic}
 use Rattle.conic.proofs.Gram.{zero-if-singular}
 use Rattle.conic.proofs.Sizes.{limit-D, D-size}
-use Rattle.conic.proofs.Tests.{isZero-iff, not-zero-of-false}
-use Rattle.conic.proofs.Vector.{Zero, unit-x, one-not-zero}
-use Rattle.conic.proofs.Cases.{cond-cases}
 use Rattle.solve.specs.Demand2.{SquareDiscriminant}
 use Rattle.solve.specs.Sizes.{limit-W'}
 use Rattle.solve.specs.Solve.{isSquareNumber, firstLine, secondLine, thirdLine, trialLine, startAtInfinity}

@@ -24,8 +24,8 @@ use Rattle.number.proofs.Squarefree.{squarefree-not-zero, squarefree-same-size,
 use Rattle.number.proofs.SquarefreeSplit.{split-is, split-equals}
 use Rattle.legendre.specs.Equation.{Levelled, Solution, Solvable, form}
 use Rattle.legendre.specs.declared.outcome.Triple.{Triple}
+use Rattle.point.specs.declared.Point.{Point}
 use Rattle.conic.specs.Form.{G, Gx, D, Δ, k}
-use Rattle.conic.specs.declared.point.Point.{Point}
 use Rattle.conic.specs.declared.conic.Conic.{Conic}
 use Rattle.solve.specs.Demand2.{LevelledBy, SquareDiscriminant}
 use Rattle.solve.specs.Level.{levelOf, levelFrom, primed, fromPrimed}

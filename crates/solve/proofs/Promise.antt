@@ -1,9 +1,9 @@
 -- The promise of solve determines its answer, which can be told from what it stands for in the paper. Assumes nothing.
 use mathlib.Core.Path.{_≡_, refl, sym, ap, _∙_}
-use Rattle.conic.specs.Paper.{Verdict, point, none-by-sign, none-by-prime, refusal}
-use Rattle.conic.specs.declared.point.Point.{Point}
+use Rattle.point.specs.Paper.{Verdict, point, none-by-sign, none-by-prime, refusal}
+use Rattle.point.specs.declared.Point.{Point}
+use Rattle.point.proofs.Promise.{told-apart, numbered, numbered-number}
 use Rattle.conic.specs.declared.conic.Conic.{Conic}
-use Rattle.conic.proofs.Promise.{told-apart, numbered, numbered-number}
 use Rattle.solve.specs.Answer.{solved}
 use Rattle.solve.specs.Solve.{SolvePromise}
 use Rattle.solve.specs.declared.Answer.the-variants as Answer

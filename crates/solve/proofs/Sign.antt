@@ -15,10 +15,10 @@ use Rattle.whole.proofs.Products.{zero-≤ℤ-*, zero-≤ℤ-square, zero-of-sq
 use Rattle.whole.proofs.Ring.{by-ring, reify}
 use Rattle.whole.proofs.Sums.{zero-≤ℤ-+, negℤ-<ℤ, left-zero-of-sum, right-zero-of-sum}
 use Rattle.legendre.specs.Equation.{OneSign}
+use Rattle.point.specs.declared.Point.{Point}
+use Rattle.point.proofs.Vector.{Zero, unit-x, unit-y, unit-z, one-not-zero}
 use Rattle.conic.specs.Form.{G, Gx, D, Δ, k}
-use Rattle.conic.specs.declared.point.Point.{Point}
 use Rattle.conic.specs.declared.conic.Conic.{Conic}
-use Rattle.conic.proofs.Vector.{Zero, unit-x, unit-y, unit-z, one-not-zero}
 use Rattle.solve.specs.Demand2.{LevelledBy, OneSignEverywhere, SquareDiscriminant}
 use Rattle.solve.specs.Level.{fromPrimed}
 use Rattle.solve.specs.Solve.{startAtInfinity}

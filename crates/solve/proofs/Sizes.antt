@@ -12,10 +12,11 @@ use Rattle.whole.proofs.Signed.{sizes, bounds}
 use Rattle.whole.proofs.Size.{natAbs-*}
 use Rattle.number.proofs.Square.{at-most-by-squares}
 use Rattle.legendre.specs.Equation.{BoxSolution}
+use Rattle.point.specs.Paper.{pointLimit}
+use Rattle.point.specs.Sizes.{PointWithin}
+use Rattle.point.specs.declared.Point.{Point}
 use Rattle.conic.specs.Form.{D, Δ, k}
-use Rattle.conic.specs.Paper.{pointLimit}
-use Rattle.conic.specs.Sizes.{InLimit, PointWithin}
-use Rattle.conic.specs.declared.point.Point.{Point}
+use Rattle.conic.specs.Sizes.{InLimit}
 use Rattle.conic.specs.declared.conic.Conic.{Conic}
 use Rattle.conic.proofs.Sizes.{limit-D, limit-k, limit-aΔ, D-size, k-size, aΔ-size}
 use Rattle.solve.specs.Demand2.{LevelledBy}

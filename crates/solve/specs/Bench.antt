@@ -4,7 +4,7 @@ use mathlib.Core.Path.{_≡_}
 use mathlib.Core.List.{List, [], _∷_, map}
 use Prim.Native.Nat.{ℕ}
 use lib.IntN.{ℤ, pos, negℤ}
-use Rattle.conic.specs.Paper.{Verdict, point, none-by-sign, none-by-prime}
+use Rattle.point.specs.Paper.{Verdict, point, none-by-sign, none-by-prime}
 use Rattle.conic.specs.declared.conic.Conic.{Conic}
 use Rattle.solve.specs.Solve.{solveOf}
 

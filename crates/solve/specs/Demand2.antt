@@ -10,10 +10,11 @@ use Rattle.number.specs.Gcd.{gcdOf}
 use Rattle.number.specs.Squarefree.{Squarefree}
 use Rattle.legendre.specs.Answer.{Chosen, LeastFailing}
 use Rattle.legendre.specs.declared.outcome.Triple.{Triple}
+use Rattle.point.specs.Normal.{NormalForm}
+use Rattle.point.specs.Paper.{point, none-by-sign, none-by-prime, pointLimit}
+use Rattle.point.specs.declared.Point.{Point}
 use Rattle.conic.specs.Form.{G, D, Δ}
-use Rattle.conic.specs.Normal.{NormalForm}
-use Rattle.conic.specs.Paper.{point, none-by-sign, none-by-prime, inRange, pointLimit}
-use Rattle.conic.specs.declared.point.Point.{Point}
+use Rattle.conic.specs.Base.{inRange}
 use Rattle.conic.specs.declared.conic.Conic.{Conic}
 use Rattle.solve.specs.Level.{carriedBack}
 use Rattle.solve.specs.Solve.{solveOf}

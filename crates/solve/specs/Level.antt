@@ -6,9 +6,9 @@ use lib.Signed.{quotZ}
 use Rattle.number.specs.Gcd.{gcdOf}
 use Rattle.number.specs.Squarefree.{freePart, squarePart}
 use Rattle.legendre.specs.declared.outcome.Triple.{Triple}
+use Rattle.point.specs.Normal.{normal}
+use Rattle.point.specs.declared.Point.{Point}
 use Rattle.conic.specs.Form.{D, Δ, k}
-use Rattle.conic.specs.Normal.{normal}
-use Rattle.conic.specs.declared.point.Point.{Point}
 use Rattle.conic.specs.declared.conic.Conic.{Conic}
 use Rattle.solve.specs.declared.level.Level.{Level}
 

@@ -4,10 +4,10 @@ use Prim.Native.Nat.{ℕ, _≤_}
 use lib.IntN.{ℤ, pos, natAbs}
 use lib.Signed.{_<ℤ_}
 use Rattle.legendre.specs.declared.outcome.Triple.{Triple}
+use Rattle.point.specs.Normal.{largest}
+use Rattle.point.specs.declared.Point.{Point}
 use Rattle.conic.specs.Form.{D}
-use Rattle.conic.specs.Normal.{largest}
 use Rattle.conic.specs.Sizes.{InLimit}
-use Rattle.conic.specs.declared.point.Point.{Point}
 use Rattle.conic.specs.declared.conic.Conic.{Conic}
 use Rattle.solve.specs.Level.{primed}
 use Rattle.solve.specs.declared.level.Level.{Level}

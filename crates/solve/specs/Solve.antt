@@ -8,10 +8,11 @@ use Rattle.number.specs.Square.{rootOf, isSquare}
 use Rattle.legendre.specs.Outcome.{outcomeOf}
 use Rattle.legendre.specs.declared.outcome.Outcome.{Outcome}
 use Rattle.legendre.specs.declared.outcome.Outcome.the-variants as Outcome
+use Rattle.point.specs.Normal.{normal}
+use Rattle.point.specs.Paper.{Verdict, point, none-by-sign, none-by-prime, refusal, isZero}
+use Rattle.point.specs.declared.Point.{Point}
 use Rattle.conic.specs.Form.{L, D, Δ, drawn}
-use Rattle.conic.specs.Normal.{normal}
-use Rattle.conic.specs.Paper.{Verdict, point, none-by-sign, none-by-prime, refusal, inRange, isZero}
-use Rattle.conic.specs.declared.point.Point.{Point}
+use Rattle.conic.specs.Base.{inRange}
 use Rattle.conic.specs.declared.conic.Conic.{Conic}
 use Rattle.solve.specs.Level.{levelOf, carriedBack}
 use Rattle.solve.specs.Answer.{solved}

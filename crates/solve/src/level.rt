@@ -1,9 +1,9 @@
 // The levelled equation pX² + gY² + qW² = 0 of a conic, with D = pg·s² and aΔ = gq·t², and the way back from its solutions.
 use conic::conic::Conic;
-use conic::point::Point;
 use legendre::outcome::Triple;
 use number::euclid::gcd;
 use number::splitting::split;
+use point::Point;
 ghost use mathlib.Core.Path.{_≡_};
 ghost use Rattle.solve.specs.Level.{levelFrom, levelOf, primed, fromPrimed, carriedBack};
 ghost use Rattle.solve.specs.Sizes.{CanLevel, PartsWithin, Carries, CarriedFrom, PrimedAt};

@@ -1,11 +1,11 @@
 // Solving a conic: a point exactly if there is one, or none with its reason.
 use crate::level::Level;
 use conic::conic::Conic;
-use conic::paper::Refusal;
-use conic::point::Point;
-use conic::size;
 use legendre::decide::outcome;
 use legendre::outcome::Outcome;
+use point::Point;
+use point::paper::Refusal;
+use point::size;
 ghost use mathlib.Core.Path.{_≡_};
 ghost use Rattle.solve.specs.Demand2.{NonDegenerate, SquareDiscriminant};
 ghost use Rattle.solve.specs.Answer.{answered};

@@ -1,9 +1,9 @@
 // The point of a conic whose -D is a square: from its point at infinity, along the first trial line that leads on.
 use conic::conic::Conic;
 use conic::line;
-use conic::point::Point;
-use conic::size;
 use number::roots;
+use point::Point;
+use point::size;
 ghost use mathlib.Core.Path.{_≡_};
 ghost use lib.IntN.{negℤ};
 ghost use Rattle.conic.specs.Form.{D};

@@ -4,8 +4,9 @@ use mathlib.Core.Path.{ap, ap₂, _∙_}
 use native.Mathlib.Omega.{arith}
 use lib.ListN.{length}
 use borrow.Author.Needs.{needs}
+use Rattle.point.specs.Paper.{isZero}
 use Rattle.conic.specs.Form.{Δ}
-use Rattle.conic.specs.Paper.{inRange, isZero}
+use Rattle.conic.specs.Base.{inRange}
 use Rattle.conic.specs.declared.conic.Conic.{Conic}
 use Rattle.book.specs.Reader.{isRightPoint, isRight}
 use Rattle.book.proofs.BodyKinds.{room, right-of-kind, no-such-kind}

@@ -5,7 +5,7 @@ use Prim.Native.Nat.{_+_, _-_, _%_, _≤_}
 use native.Mathlib.Omega.{arith}
 use lib.ListN.{length}
 use borrow.Author.Needs.{needs}
-use Rattle.conic.specs.Paper.{inRange}
+use Rattle.conic.specs.Base.{inRange}
 use Rattle.book.specs.Writer.{conicsOf, allInRange}
 use Rattle.book.proofs.Judged.{failed, held}
 use Rattle.book.proofs.Listed.{conicsAfter, after-all, range-more, range-none}

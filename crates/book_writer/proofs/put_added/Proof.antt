@@ -3,7 +3,7 @@ use mathlib.Core.Path.{_≡_, sym, ap, _∙_}
 use native.Mathlib.Omega.{arith}
 use lib.Seq.{sets}
 use borrow.Author.Needs.{needs}
-use Rattle.conic.specs.Paper.{Verdict, point, none-by-prime}
+use Rattle.point.specs.Paper.{Verdict, point, none-by-prime}
 use Rattle.solve.specs.Answer.{solved}
 use Rattle.book.specs.Bytes.{bytes}
 use Rattle.book.specs.Layout.{added}

@@ -5,7 +5,7 @@ use Prim.Native.Nat.{_+_, _≤_}
 use native.Mathlib.Omega.{arith}
 use lib.ListN.{length}
 use borrow.Author.Needs.{needs}
-use Rattle.conic.specs.Paper.{Verdict}
+use Rattle.point.specs.Paper.{Verdict}
 use Rattle.solve.specs.Answer.{solved}
 use Rattle.solve.specs.Solve.{solveOf}
 use Rattle.book.specs.Layout.{bodyLength, kindOf, conicAt}

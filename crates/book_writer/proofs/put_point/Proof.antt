@@ -9,7 +9,7 @@ use mir.Facts.{toZ-ofZ}
 use mir.Syntax.{w64}
 use mir.Val.{toZ, ofZ}
 use Rattle.whole.proofs.Signed.{sizes, fits}
-use Rattle.conic.specs.Paper.{pointLimit}
+use Rattle.point.specs.Paper.{pointLimit}
 use Rattle.book.specs.Bytes.{bytes, unsigned}
 use Rattle.book.proofs.LittleEndian.{length-four}
 use Rattle.book.proofs.Stores.{sets-three}

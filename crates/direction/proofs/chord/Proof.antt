@@ -3,7 +3,7 @@ use mathlib.Core.Path.{_≡_, refl, _∙_}
 use lib.IntN.{_-ℤ_, _*ℤ_}
 use mir.Syntax.{w64}
 use Rattle.whole.proofs.Signed.{sizes, fits, reads}
-use Rattle.conic.specs.declared.point.Point.{Point}
+use Rattle.point.specs.declared.Point.{Point}
 use Rattle.direction.specs.Direction.{chord}
 use Rattle.direction.proofs.Directions.{same-direction}
 use Rattle.direction.proofs.chord.Statement.{statement}

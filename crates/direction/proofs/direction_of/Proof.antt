@@ -3,12 +3,14 @@
 use mathlib.Core.Path.{_≡_, sym, ap, _∙_}
 use mathlib.Core.Bool.{true}
 use borrow.Author.Needs.{needs, sfits-of}
-use Rattle.conic.specs.Base.{LegalBase, isTarget, legal, judged, judgedOf}
+use Rattle.point.specs.Legal.{isTarget}
+use Rattle.point.specs.Paper.{isZero}
+use Rattle.point.proofs.Cases.{was-false, was-true}
+use Rattle.point.proofs.Limits.{target-within}
+use Rattle.point.proofs.Passed.{passed}
+use Rattle.conic.specs.Base.{LegalBase, legal, judged, judgedOf}
 use Rattle.conic.specs.Form.{G}
-use Rattle.conic.specs.Paper.{isZero}
-use Rattle.conic.proofs.Cases.{was-false, was-true}
-use Rattle.conic.proofs.Legal.{legal-base, at-base, target-within}
-use Rattle.conic.proofs.Passed.{passed}
+use Rattle.conic.proofs.Legal.{legal-base, at-base}
 use Rattle.direction.specs.Direction.{direction}
 use Rattle.direction.proofs.Entries.{direction-refused, direction-no-target, direction-target-off, direction-found}
 use Rattle.direction.proofs.direction_of.Statement.{statement}

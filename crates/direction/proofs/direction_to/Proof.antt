@@ -5,12 +5,12 @@ use mathlib.Core.Bool.{cond}
 use mir.Syntax.{w64}
 use mir.Facts.{toZ-ofZ}
 use borrow.Author.Needs.{needs, sfits-of}
-use Rattle.conic.specs.Normal.{largest, atInfinity, normalDirection, normalDirectionWithin}
-use Rattle.conic.specs.Sizes.{PointWithin}
-use Rattle.conic.specs.declared.point.Point.{Point}
-use Rattle.conic.specs.declared.point.Direction.{Direction}
+use Rattle.point.specs.Normal.{largest, atInfinity, normalDirection, normalDirectionWithin}
+use Rattle.point.specs.Sizes.{PointWithin}
+use Rattle.point.specs.declared.Point.{Point}
+use Rattle.point.specs.declared.Direction.{Direction}
+use Rattle.point.proofs.Limits.{normalWithin-is-normal}
 use Rattle.conic.specs.declared.conic.Conic.{Conic}
-use Rattle.conic.proofs.Limits.{normalWithin-is-normal}
 use Rattle.direction.specs.Direction.{isSame, tangent, chord, directionTo}
 use Rattle.direction.proofs.Directions.{same-direction}
 use Rattle.direction.proofs.Room.{toward-fits}

@@ -5,7 +5,7 @@ use lib.IntN.{_-ℤ_}
 use mir.Syntax.{w64}
 use borrow.Author.Needs.{needs}
 use Rattle.whole.proofs.Signed.{sizes, fits, reads}
-use Rattle.conic.specs.Paper.{isZero}
+use Rattle.point.specs.Paper.{isZero}
 use Rattle.direction.specs.Direction.{isSame}
 use Rattle.direction.proofs.is_same.Statement.{statement}
 use Rattle.direction.proofs.is_same.Tie as tie

@@ -5,13 +5,13 @@ use mir.Syntax.{w64}
 use mir.Val.{toZ, ofZ}
 use mir.Facts.{toZ-ofZ}
 use borrow.Author.Needs.{sfits-of}
-use Rattle.conic.specs.Normal.{normal, atInfinity}
+use Rattle.point.specs.Normal.{normal, atInfinity}
+use Rattle.point.specs.declared.Point.{Point}
+use Rattle.point.specs.declared.Direction.{Direction}
+use Rattle.point.proofs.Vector.{same-point}
 use Rattle.conic.specs.Sizes.{ConicAlong}
 use Rattle.conic.specs.Form.{drawn}
-use Rattle.conic.specs.declared.point.Point.{Point}
-use Rattle.conic.specs.declared.point.Direction.{Direction}
 use Rattle.conic.specs.declared.conic.Conic.{Conic}
-use Rattle.conic.proofs.Vector.{same-point}
 use Rattle.direction.specs.Direction.{pointFrom}
 use Rattle.direction.proofs.point_from.Statement.{statement}
 use Rattle.direction.proofs.point_from.Tie as tie

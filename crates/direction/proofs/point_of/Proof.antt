@@ -3,8 +3,9 @@
 use mathlib.Core.Path.{_≡_, sym, ap, _∙_}
 use mathlib.Core.Bool.{true}
 use borrow.Author.Needs.{needs}
-use Rattle.conic.specs.Base.{isDirection, legal, judged, judgedOf}
-use Rattle.conic.specs.Paper.{point}
+use Rattle.point.specs.Legal.{isDirection}
+use Rattle.point.specs.Paper.{point}
+use Rattle.conic.specs.Base.{legal, judged, judgedOf}
 use Rattle.conic.proofs.Legal.{legal-base}
 use Rattle.direction.proofs.Entries.{point-refused, point-no-direction, point-reached}
 use Rattle.direction.proofs.Room.{along-direction}

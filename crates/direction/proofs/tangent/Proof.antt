@@ -4,8 +4,8 @@ use lib.IntN.{pos, negℤ, _-ℤ_, +ℤ-idl}
 use mir.Syntax.{w64}
 use borrow.Author.Needs.{needs}
 use Rattle.whole.proofs.Signed.{sizes, fits, reads}
+use Rattle.point.specs.declared.Point.{Point}
 use Rattle.conic.specs.Form.{Gx, Gy}
-use Rattle.conic.specs.declared.point.Point.{Point}
 use Rattle.conic.specs.declared.conic.Conic.{Conic}
 use Rattle.conic.proofs.Bounds.{formSizes}
 use Rattle.direction.specs.Direction.{tangent}

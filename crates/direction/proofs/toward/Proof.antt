@@ -1,7 +1,7 @@
 -- `direction::toward` meets its contract, call by call. Assumes nothing.
 use mathlib.Core.Path.{sym, _∙_}
 use borrow.Author.Needs.{needs}
-use Rattle.conic.proofs.Cases.{when, unless}
+use Rattle.point.proofs.Cases.{when, unless}
 use Rattle.direction.proofs.toward.Statement.{statement}
 use Rattle.direction.proofs.toward.Tie as tie
 

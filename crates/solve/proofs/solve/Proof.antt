@@ -3,10 +3,11 @@ use mathlib.Core.Path.{_≡_, sym, ap, _∙_}
 use mathlib.Core.Bool.{true, false}
 use borrow.Author.Needs.{needs, sfits-of}
 use Rattle.number.proofs.Least.{T-of-true}
+use Rattle.point.specs.Paper.{isZero}
+use Rattle.point.proofs.Cases.{was-false, was-true}
+use Rattle.point.proofs.Passed.{passed}
 use Rattle.conic.specs.Form.{Δ}
-use Rattle.conic.specs.Paper.{inRange, isZero}
-use Rattle.conic.proofs.Cases.{was-false, was-true}
-use Rattle.conic.proofs.Passed.{passed}
+use Rattle.conic.specs.Base.{inRange}
 use Rattle.conic.proofs.Sizes.{in-limit}
 use Rattle.solve.proofs.Entries.{solve-out-of-range, solve-degenerate, solve-other, not-degenerate}
 use Rattle.solve.proofs.solve.Statement.{statement}

@@ -11,7 +11,7 @@ use Rattle.legendre.specs.Reach.{Reach}
 use Rattle.legendre.specs.declared.outcome.Triple.{Triple}
 use Rattle.legendre.specs.declared.outcome.Outcome.{Outcome}
 use Rattle.legendre.specs.declared.outcome.Outcome.the-variants as Outcome
-use Rattle.conic.specs.Paper.{point, none-by-sign, none-by-prime}
+use Rattle.point.specs.Paper.{point, none-by-sign, none-by-prime}
 use Rattle.conic.specs.Sizes.{InLimit}
 use Rattle.conic.specs.declared.conic.Conic.{Conic}
 use Rattle.conic.proofs.Sizes.{in-limit}

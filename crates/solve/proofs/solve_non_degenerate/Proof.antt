@@ -4,8 +4,8 @@ use mathlib.Core.Path.{_≡_, sym, ap, _∙_}
 use mathlib.Core.Bool.{false}
 use lib.IntN.{negℤ}
 use Rattle.number.proofs.Least.{not-true-of-false}
+use Rattle.point.specs.Paper.{point}
 use Rattle.conic.specs.Form.{D}
-use Rattle.conic.specs.Paper.{point}
 use Rattle.conic.proofs.Sizes.{in-limit}
 use Rattle.solve.specs.Solve.{isSquareNumber}
 use Rattle.solve.proofs.Entries.{solve-square, solve-by-level}

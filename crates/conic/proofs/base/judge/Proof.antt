@@ -3,12 +3,14 @@ use mathlib.Core.Path.{_≡_, sym, ap, _∙_}
 use mathlib.Core.Bool.{true, false}
 use borrow.Author.Needs.{needs, sfits-of}
 use Rattle.number.proofs.Least.{T-of-true}
-use Rattle.conic.specs.Base.{isBase}
+use Rattle.point.specs.Legal.{isBase}
+use Rattle.point.specs.Paper.{isZero}
+use Rattle.point.proofs.Cases.{was-false, was-true}
+use Rattle.point.proofs.Limits.{base-within}
+use Rattle.point.proofs.Passed.{passed}
 use Rattle.conic.specs.Form.{G, Δ}
-use Rattle.conic.specs.Paper.{inRange, isZero}
-use Rattle.conic.proofs.Cases.{was-false, was-true}
-use Rattle.conic.proofs.Legal.{judged-range, judged-degenerate, judged-base, judged-off, judged-legal, base-within}
-use Rattle.conic.proofs.Passed.{passed}
+use Rattle.conic.specs.Base.{inRange}
+use Rattle.conic.proofs.Legal.{judged-range, judged-degenerate, judged-base, judged-off, judged-legal}
 use Rattle.conic.proofs.Sizes.{in-limit}
 use Rattle.conic.proofs.base.judge.Statement.{statement}
 use Rattle.conic.proofs.base.judge.Tie as tie

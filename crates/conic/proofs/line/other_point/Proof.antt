@@ -4,8 +4,8 @@ use mathlib.Core.Path.{ap, _∙_}
 use mir.Syntax.{w64}
 use mir.Val.{SFits}
 use borrow.Author.Needs.{needs, sfits-of}
-use Rattle.conic.specs.Normal.{normalWithin}
-use Rattle.conic.proofs.Limits.{normal-passed, normalWithin-is-normal}
+use Rattle.point.specs.Normal.{normalWithin}
+use Rattle.point.proofs.Limits.{normal-passed, normalWithin-is-normal}
 use Rattle.conic.proofs.Bounds.{drawn-fits}
 use Rattle.conic.proofs.line.other_point.Statement.{statement}
 use Rattle.conic.proofs.line.other_point.Tie as tie

@@ -8,7 +8,7 @@ use mir.Syntax.{w64}
 use mir.Val.{SFits, toZ, ofZ}
 use mir.Facts.{toZ-ofZ}
 use borrow.Author.Needs.{needs}
-use Rattle.conic.specs.declared.point.Point.{Point}
+use Rattle.point.specs.declared.Point.{Point}
 use Rattle.row.specs.Reading.{space}
 use Rattle.row.specs.Writing.{lineFeed, signedDecimal, rowText}
 use Rattle.row.specs.Buffer.{Wrote}

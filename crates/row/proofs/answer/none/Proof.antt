@@ -1,7 +1,7 @@
 -- `row::answer::none` meets its contract: each way is the text of its reason. Assumes nothing.
 use mathlib.Core.Path.{_≡_, ap}
 use borrow.Author.Needs.{needs}
-use Rattle.conic.specs.Paper.{none-by-prime, none-by-sign}
+use Rattle.point.specs.Paper.{none-by-prime, none-by-sign}
 use Rattle.solve.specs.Answer.{reasonGiven}
 use Rattle.solve.specs.declared.Reason.{Reason}
 use Rattle.row.specs.Writing.{rowText}

@@ -1,7 +1,7 @@
 -- `row::answer::pointed` meets its contract: the text of a point is its row's. Assumes nothing.
 use mathlib.Core.Path.{_≡_, ap}
 use borrow.Author.Needs.{needs}
-use Rattle.conic.specs.Paper.{point}
+use Rattle.point.specs.Paper.{point}
 use Rattle.row.specs.Writing.{rowText}
 use Rattle.row.specs.Texts.{pointText}
 use Rattle.row.proofs.Buffer.{wrote-as, wrote-nothing}

@@ -4,11 +4,11 @@ use lib.IntN.{pos, _+ℤ_, _-ℤ_, _*ℤ_}
 use mir.Syntax.{w64}
 use borrow.Author.Needs.{needs}
 use Rattle.whole.proofs.Signed.{sizes, fits, reads}
+use Rattle.point.specs.declared.Point.{Point}
+use Rattle.point.proofs.Vector.{same-point}
 use Rattle.conic.specs.Form.{D, k}
-use Rattle.conic.specs.declared.point.Point.{Point}
 use Rattle.conic.specs.declared.conic.Conic.{Conic}
 use Rattle.conic.proofs.Bounds.{formSizes}
-use Rattle.conic.proofs.Vector.{same-point}
 use Rattle.solve.specs.Level.{fromPrimed}
 use Rattle.solve.proofs.level.from_primed.Statement.{statement}
 use Rattle.solve.proofs.level.from_primed.Tie as tie

@@ -1,10 +1,10 @@
 -- `solve::trial::from_infinity` meets its contract, call by call. Assumes nothing.
 use mathlib.Core.Path.{_≡_, sym, ap, subst, _∙_}
 use borrow.Author.Needs.{needs}
-use Rattle.conic.specs.Normal.{normal}
+use Rattle.point.specs.Normal.{normal}
+use Rattle.point.specs.declared.Point.{Point}
 use Rattle.conic.specs.Sizes.{ConicAt, ConicAlong}
 use Rattle.conic.specs.Form.{drawn}
-use Rattle.conic.specs.declared.point.Point.{Point}
 use Rattle.conic.specs.declared.conic.Conic.{Conic}
 use Rattle.conic.proofs.Bounds.{at-start}
 use Rattle.solve.specs.Solve.{startAtInfinity, trialLine, fromInfinity}

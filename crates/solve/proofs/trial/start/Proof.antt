@@ -8,12 +8,12 @@ use mir.Facts.{toZ-ofZ}
 use borrow.Author.Needs.{needs, sfits-of}
 use Rattle.whole.proofs.Signed.{casts, fits, reads}
 use Rattle.number.specs.Square.{rootOf}
+use Rattle.point.specs.Paper.{isZero}
+use Rattle.point.specs.declared.Point.{Point}
+use Rattle.point.proofs.Passed.{passed}
+use Rattle.point.proofs.Vector.{same-point}
 use Rattle.conic.specs.Form.{D}
-use Rattle.conic.specs.Paper.{isZero}
-use Rattle.conic.specs.declared.point.Point.{Point}
 use Rattle.conic.specs.declared.conic.Conic.{Conic}
-use Rattle.conic.proofs.Passed.{passed}
-use Rattle.conic.proofs.Vector.{same-point}
 use Rattle.solve.specs.Sizes.{limit-W'}
 use Rattle.solve.specs.Solve.{startAtInfinity}
 use Rattle.solve.proofs.Infinity.{root-small}

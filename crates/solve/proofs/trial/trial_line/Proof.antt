@@ -2,10 +2,10 @@
 use mathlib.Core.Path.{_≡_, sym, ap, _∙_}
 use mathlib.Core.Bool.{true}
 use borrow.Author.Needs.{needs, sfits-of}
+use Rattle.point.specs.Paper.{isZero}
+use Rattle.point.proofs.Cases.{was-false, was-true}
+use Rattle.point.proofs.Passed.{passed}
 use Rattle.conic.specs.Form.{L}
-use Rattle.conic.specs.Paper.{isZero}
-use Rattle.conic.proofs.Cases.{was-false, was-true}
-use Rattle.conic.proofs.Passed.{passed}
 use Rattle.solve.specs.Solve.{firstLine, secondLine}
 use Rattle.solve.proofs.Entries.{first-line, second-line, third-line}
 use Rattle.solve.proofs.trial.trial_line.Statement.{statement}

@@ -7,9 +7,9 @@ use lib.IntN.{ℤ, _+ℤ_, _*ℤ_}
 use mir.Syntax.{w64}
 use Rattle.whole.proofs.Ring.{by-ring, reify}
 use Rattle.whole.proofs.Signed.{sizes, fits, reads, bounds}
+use Rattle.point.specs.Paper.{coefficientLimit, pointLimit}
+use Rattle.point.specs.declared.Point.{Point}
 use Rattle.conic.specs.Form.{G}
-use Rattle.conic.specs.Paper.{coefficientLimit, pointLimit}
-use Rattle.conic.specs.declared.point.Point.{Point}
 use Rattle.conic.specs.declared.conic.Conic.{Conic}
 use Rattle.conic.proofs.Products.{products-fit}
 use Rattle.conic.proofs.conic.Conic.at.Statement.{statement}

@@ -2,8 +2,8 @@
 use mathlib.Core.Path.{refl}
 use borrow.Author.Needs.{needs}
 use Rattle.whole.proofs.Signed.{sizes, reads, bounds}
+use Rattle.point.specs.Paper.{directionLimit}
 use Rattle.conic.specs.Form.{L}
-use Rattle.conic.specs.Paper.{directionLimit}
 use Rattle.conic.proofs.Products.{products-fit}
 use Rattle.conic.proofs.Bounds.{limit-derivative, at-start, formSizes}
 use Rattle.conic.proofs.conic.Conic.derivative_along.Statement.{statement}

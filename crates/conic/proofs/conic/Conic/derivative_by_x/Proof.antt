@@ -3,8 +3,8 @@ use mathlib.Core.Path.{refl}
 use Prim.Native.Nat.{_*_}
 use mir.Syntax.{w64}
 use Rattle.whole.proofs.Signed.{sizes, fits, reads, bounds}
+use Rattle.point.specs.Paper.{coefficientLimit, pointLimit}
 use Rattle.conic.specs.Form.{Gx}
-use Rattle.conic.specs.Paper.{coefficientLimit, pointLimit}
 use Rattle.conic.proofs.Products.{products-fit}
 use Rattle.conic.proofs.conic.Conic.derivative_by_x.Statement.{statement}
 use Rattle.conic.proofs.conic.Conic.derivative_by_x.Tie as tie

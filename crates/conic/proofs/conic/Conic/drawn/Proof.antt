@@ -4,11 +4,11 @@ use lib.IntN.{_-ℤ_, _*ℤ_}
 use mir.Syntax.{w64}
 use borrow.Author.Needs.{needs}
 use Rattle.whole.proofs.Signed.{sizes, fits, reads}
+use Rattle.point.specs.declared.Point.{Point}
+use Rattle.point.proofs.Vector.{same-point}
 use Rattle.conic.specs.Form.{G, L, drawn}
-use Rattle.conic.specs.declared.point.Point.{Point}
 use Rattle.conic.specs.declared.conic.Conic.{Conic}
 use Rattle.conic.proofs.Bounds.{formSizes}
-use Rattle.conic.proofs.Vector.{same-point}
 use Rattle.conic.proofs.conic.Conic.drawn.Statement.{statement}
 use Rattle.conic.proofs.conic.Conic.drawn.Tie as tie
 

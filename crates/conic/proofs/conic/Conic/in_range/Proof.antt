@@ -2,9 +2,10 @@
 use mathlib.Core.Path.{_≡_, refl, ap, _∙_}
 use mathlib.Core.Bool.{Bool, true, false, _&&_}
 use borrow.Author.Needs.{needs}
-use Rattle.conic.specs.Paper.{within, coefficientLimit, inRange}
+use Rattle.point.specs.Paper.{within, coefficientLimit}
+use Rattle.point.proofs.Passed.{tested}
+use Rattle.conic.specs.Base.{inRange}
 use Rattle.conic.specs.declared.conic.Conic.{Conic}
-use Rattle.conic.proofs.Passed.{tested}
 use Rattle.conic.proofs.conic.Conic.in_range.Statement.{statement}
 use Rattle.conic.proofs.conic.Conic.in_range.Tie as tie
 

@@ -4,10 +4,10 @@ use mathlib.Core.Path.{_≡_, sym, ap, _∙_, subst}
 use lib.Dec.{lit≤}
 use borrow.Author.Needs.{needs, sfits-of}
 use Rattle.legendre.specs.declared.outcome.Triple.{Triple}
-use Rattle.conic.specs.Normal.{normal, normalWithin}
+use Rattle.point.specs.Normal.{normal, normalWithin}
+use Rattle.point.specs.declared.Point.{Point}
+use Rattle.point.proofs.Limits.{within-wider, normalWithin-is-normal, normal-passed}
 use Rattle.conic.specs.declared.conic.Conic.{Conic}
-use Rattle.conic.specs.declared.point.Point.{Point}
-use Rattle.conic.proofs.Limits.{within-wider, normalWithin-is-normal, normal-passed}
 use Rattle.solve.specs.Level.{primed, fromPrimed, carriedBack}
 use Rattle.solve.specs.Sizes.{CarriedFrom, PrimedAt}
 use Rattle.solve.specs.declared.level.Level.{Level}

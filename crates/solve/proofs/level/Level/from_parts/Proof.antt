@@ -11,8 +11,8 @@ use Rattle.whole.proofs.Signed.{casts, fits, reads}
 use Rattle.whole.proofs.Size.{natAbs-zero}
 use Rattle.number.specs.Gcd.{gcdOf}
 use Rattle.number.proofs.Gcd.{gcd-divides-left}
-use Rattle.conic.specs.Normal.{largest}
-use Rattle.conic.proofs.Passed.{factors}
+use Rattle.point.specs.Normal.{largest}
+use Rattle.point.proofs.Passed.{factors}
 use Rattle.solve.specs.Level.{levelFrom}
 use Rattle.solve.specs.declared.level.Level.{Level}
 use Rattle.solve.proofs.level.Level.from_parts.Statement.{statement}

@@ -15,8 +15,8 @@ use Rattle.number.specs.Squarefree.{freePart, squarePart}
 use Rattle.number.specs.declared.splitting.Parts.{Parts}
 use Rattle.number.proofs.Squarefree.{squarefree-not-zero}
 use Rattle.number.proofs.SquarefreeSplit.{split-is, square-part-squared-at-most}
+use Rattle.point.specs.Normal.{largest}
 use Rattle.conic.specs.Form.{D, Δ}
-use Rattle.conic.specs.Normal.{largest}
 use Rattle.conic.specs.declared.conic.Conic.{Conic}
 use Rattle.conic.proofs.Bounds.{formSizes}
 use Rattle.conic.proofs.Sizes.{D-size, aΔ-size}

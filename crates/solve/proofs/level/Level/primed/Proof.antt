@@ -14,7 +14,7 @@ use Rattle.whole.proofs.Ring.{by-ring, reify}
 use Rattle.whole.proofs.Size.{natAbs-*}
 use Rattle.whole.proofs.Signed.{Sized, operation, kept, in-range, read-back, cast-at-most, casts, fits, reads}
 use Rattle.legendre.specs.declared.outcome.Triple.{Triple}
-use Rattle.conic.proofs.Vector.{same-point}
+use Rattle.point.proofs.Vector.{same-point}
 use Rattle.solve.specs.Level.{primed}
 use Rattle.solve.specs.Sizes.{Carries, limit-X', limit-Y', limit-W'}
 use Rattle.solve.specs.declared.level.Level.{Level}

@@ -1,0 +1,4 @@
+pub mod Paper
+pub mod Normal
+pub mod Legal
+pub mod Sizes
