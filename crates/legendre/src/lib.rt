@@ -1,7 +1,7 @@
 // Legendre's equation on machine numbers.
 pub mod decide;
-pub mod failing;
-pub mod least;
+mod failing;
+mod least;
 pub mod outcome;
-pub mod signs;
-pub mod walk;
+mod signs;
+mod walk;

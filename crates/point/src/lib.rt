@@ -4,7 +4,7 @@ use crate::paper::POINT_LIMIT;
 use number::euclid::gcd;
 ghost use mathlib.Core.Path.{_≡_};
 ghost use Rattle.point.specs.Normal.{commonFactor, leading, signed, over, largest, normalWithin, normalDirectionWithin};
-ghost use Rattle.point.specs.Paper.{pointInLimit, directionInLimit};
+ghost use Rattle.point.specs.Paper.{within, pointInLimit, directionInLimit};
 ghost use Rattle.point.specs.Legal.{isNormal, isBase, isTarget, isDirection};
 ghost use Rattle.point.specs.Sizes.{PointWithin};
 
@@ -24,6 +24,13 @@ pub struct Direction {
     pub v: i64,
 }
 
+// Whether n has a negation, as all but -2⁶³ have: one comparison.
+fn has_negation(n: i64) -> bool
+    ensures { λ r. ⌜ r ≡ within largest n ⌝ }
+{
+    n > i64::MIN
+}
+
 impl Point {
     // The triple that is no point.
     pub const ZERO: Point = Point { x: 0, y: 0, z: 0 };
@@ -32,7 +39,7 @@ impl Point {
     pub fn normal(x: i64, y: i64, z: i64) -> Point
         ensures { λ r. ⌜ r ≡ normalWithin (record { x = x; y = y; z = z }) ⌝ }
     {
-        if size::has_negation(x) & size::has_negation(y) & size::has_negation(z) {
+        if has_negation(x) & has_negation(y) & has_negation(z) {
             let p = Point { x, y, z };
             p.over(p.divisor())
         } else {
@@ -89,14 +96,14 @@ impl Point {
     }
 
     // Six comparisons.
-    pub fn in_limit(self) -> bool
+    fn in_limit(self) -> bool
         ensures { λ r. ⌜ r ≡ pointInLimit self ⌝ }
     {
         size::all_within(self.x, self.y, self.z, POINT_LIMIT)
     }
 
     // Two greatest common divisors.
-    pub fn is_normal(self) -> bool
+    fn is_normal(self) -> bool
         ensures { λ r. ⌜ r ≡ isNormal self ⌝ }
     {
         (self.common_factor() == 1) & (self.leading() > 0)
@@ -127,7 +134,7 @@ impl Direction {
     }
 
     // Four comparisons.
-    pub fn in_limit(self) -> bool
+    fn in_limit(self) -> bool
         ensures { λ r. ⌜ r ≡ directionInLimit self ⌝ }
     {
         size::within(self.u, DIRECTION_LIMIT) & size::within(self.v, DIRECTION_LIMIT)

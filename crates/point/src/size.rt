@@ -2,7 +2,6 @@
 ghost use mathlib.Core.Path.{_≡_};
 ghost use mathlib.Core.Bool.{_&&_};
 ghost use Rattle.point.specs.Paper.{within, isZero};
-ghost use Rattle.point.specs.Normal.{largest};
 
 // Whether n is at most the limit in size: two comparisons, and no absolute value, which -2⁶³ has not.
 pub fn within(n: i64, limit: u32) -> bool
@@ -17,13 +16,6 @@ pub fn all_within(x: i64, y: i64, z: i64, limit: u32) -> bool
     ensures { λ r. ⌜ r ≡ within limit x && within limit y && within limit z ⌝ }
 {
     within(x, limit) & within(y, limit) & within(z, limit)
-}
-
-// Whether n has a negation, as all but -2⁶³ have: one comparison.
-pub fn has_negation(n: i64) -> bool
-    ensures { λ r. ⌜ r ≡ within largest n ⌝ }
-{
-    n > i64::MIN
 }
 
 // One comparison.

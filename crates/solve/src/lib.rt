@@ -11,8 +11,8 @@ ghost use Rattle.solve.specs.Demand2.{NonDegenerate, SquareDiscriminant}
 ghost use Rattle.solve.specs.Answer.{answered};
 ghost use Rattle.solve.specs.Solve.{solveLevelled, solveNonDegenerate, SolvePromise};
 
-pub mod level;
-pub mod trial;
+mod level;
+mod trial;
 
 // Why a conic has no point.
 pub enum Reason {

@@ -1,4 +1,4 @@
--- `point::size::has_negation` meets its contract: every 64-bit number above −2⁶³ is at most the largest in size. Assumes nothing.
+-- `point::has_negation` meets its contract: every 64-bit number above −2⁶³ is at most the largest in size. Assumes nothing.
 use mathlib.Core.Path.{_≡_, refl, sym, ap, _∙_}
 use native.Mathlib.Nat.{le-of-suc-le-suc}
 use lib.IntN.{ℤ, pos, negsuc}
@@ -9,8 +9,8 @@ use mir.Facts.{toZ-ofZ}
 use borrow.Author.Tests.{le-leb}
 use Rattle.point.specs.Normal.{largest}
 use Rattle.point.specs.Paper.{within}
-use Rattle.point.proofs.size.has_negation.Statement.{statement}
-use Rattle.point.proofs.size.has_negation.Tie as tie
+use Rattle.point.proofs.has_negation.Statement.{statement}
+use Rattle.point.proofs.has_negation.Tie as tie
 
 above-lowest : (n : ℤ) → SFits w64 n → ltZ (negsuc largest) n ≡ within largest n
 unfolding within
