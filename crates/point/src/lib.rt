@@ -113,7 +113,7 @@ impl Point {
     pub fn is_base(self) -> bool
         ensures { λ r. ⌜ r ≡ isBase self ⌝ }
     {
-        self.in_limit() & self.is_normal() & (self.z > 0)
+        self.is_target() & (self.z > 0)
     }
 
     // Six comparisons and two greatest common divisors.
