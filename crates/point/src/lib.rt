@@ -35,6 +35,13 @@ impl Point {
     // The triple that is no point.
     pub const ZERO: Point = Point { x: 0, y: 0, z: 0 };
 
+    // The three trial lines.
+    pub const FIRST_LINE: Point = Point { x: 0, y: 0, z: 1 };
+
+    pub const SECOND_LINE: Point = Point { x: 1, y: 0, z: 1 };
+
+    pub const THIRD_LINE: Point = Point { x: 0, y: 1, z: 1 };
+
     // The normal form of (x, y, z). Some thirty steps and two greatest common divisors.
     pub fn normal(x: i64, y: i64, z: i64) -> Point
         ensures { λ r. ⌜ r ≡ normalWithin (record { x = x; y = y; z = z }) ⌝ }

@@ -10,12 +10,6 @@ ghost use Rattle.conic.specs.Form.{D};
 ghost use Rattle.conic.specs.Sizes.{InLimit, ConicAt};
 ghost use Rattle.solve.specs.Solve.{isSquareNumber, startAtInfinity, trialLine, fromInfinity};
 
-const FIRST_LINE: Point = Point { x: 0, y: 0, z: 1 };
-
-const SECOND_LINE: Point = Point { x: 1, y: 0, z: 1 };
-
-const THIRD_LINE: Point = Point { x: 0, y: 1, z: 1 };
-
 // Whether -D is a square: one square test.
 pub fn has_square_discriminant(h: Conic) -> bool
     requires { ⌜ InLimit h ⌝ }
@@ -47,13 +41,13 @@ fn trial_line(h: Conic, s: Point) -> Point
     requires { ⌜ ConicAt h s ⌝ }
     ensures { λ r. ⌜ r ≡ trialLine h s ⌝ }
 {
-    if !size::is_zero(h.derivative_along(s, FIRST_LINE)) {
-        return FIRST_LINE;
+    if !size::is_zero(h.derivative_along(s, Point::FIRST_LINE)) {
+        return Point::FIRST_LINE;
     }
-    if !size::is_zero(h.derivative_along(s, SECOND_LINE)) {
-        return SECOND_LINE;
+    if !size::is_zero(h.derivative_along(s, Point::SECOND_LINE)) {
+        return Point::SECOND_LINE;
     }
-    THIRD_LINE
+    Point::THIRD_LINE
 }
 
 // One root, some hundred steps, and two greatest common divisors.
