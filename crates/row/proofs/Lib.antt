@@ -1,10 +1,5 @@
-pub mod Cases
 pub mod Buffer
 pub mod Decimal
-pub mod Steps
-pub mod RestOfNumber
-pub mod Parts
 pub mod Sizes
-pub mod LongTexts
 pub mod RowTells
 pub mod Promise

@@ -9,7 +9,7 @@ use lib.Dec.{lit<, lit≤}
 use lib.IntN.{ℤ, pos, negsuc}
 use Rattle.point.specs.Paper.{point, none-by-sign, none-by-prime, refusal}
 use Rattle.point.specs.declared.Point.{Point}
-use Rattle.row.specs.Reading.{space, minus}
+use Rattle.row_reader.specs.Reading.{space, minus}
 use Rattle.row.specs.Writing.{lineFeed, decimal, signedDecimal, rowText}
 use Rattle.row.specs.Theorems.{RowTellsAnswer}
 use Rattle.row.proofs.Decimal.{Above, decimal-above, decimal-injective}

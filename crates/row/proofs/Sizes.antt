@@ -28,11 +28,11 @@ use Rattle.solve.specs.Demand2.{NonDegenerate, RightPoint, PointIsRight}
 use Rattle.solve.specs.Level.{levelFrom, levelOf, carriedBack}
 use Rattle.solve.specs.Solve.{isSquareNumber, fromInfinity, outcomeCarried, solveLevelled, solveNonDegenerate, solveOf}
 use Rattle.solve.proofs.Demand2.{pointIsRight}
-use Rattle.row.specs.Reading.{readRow}
+use Rattle.row_reader.specs.Reading.{readRow}
 use Rattle.row.specs.Writing.{decimal, signedDecimal, rowText}
 use Rattle.row.specs.Row.{verdictOn, rowOf, bufferLimit}
 use Rattle.row.specs.Theorems.{RowsFit}
-use Rattle.row.proofs.Cases.{by-test}
+use Rattle.point.proofs.Cases.{by-test}
 use Rattle.row.proofs.Decimal.{decimal-length}
 
 -- what a row has room for

@@ -1,5 +1,3 @@
-pub mod Reading
-pub mod Steps
 pub mod Writing
 pub mod Buffer
 pub mod Texts

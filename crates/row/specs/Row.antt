@@ -10,7 +10,7 @@ use lib.ListN.{length, drop}
 use Rattle.point.specs.Paper.{Verdict, refusal, number}
 use Rattle.conic.specs.declared.conic.Conic.{Conic}
 use Rattle.solve.specs.Solve.{solveOf}
-use Rattle.row.specs.Reading.{readRow}
+use Rattle.row_reader.specs.Reading.{readRow}
 use Rattle.row.specs.Writing.{rowText}
 use Rattle.row.specs.declared.Written.{Written}
 use Rattle.row.specs.declared.Written.the-variants as Written

@@ -1,12 +1,10 @@
--- What holds of text rows, as statements: the promise has one answer, a row's text tells its answer, a row fits the smallest buffer,
--- and a text above 47 bytes is no row. Assumes nothing.
+-- What holds of text rows, as statements: the promise has one answer, a row's text tells its answer, and a row fits the smallest
+-- buffer. Assumes nothing.
 use mathlib.Core.List.{List}
-use mathlib.Core.Option.{none}
 use mathlib.Core.Path.{_≡_}
-use Prim.Native.Nat.{ℕ, _≤_, _<_}
+use Prim.Native.Nat.{ℕ, _≤_}
 use lib.ListN.{length}
 use Rattle.point.specs.Paper.{Verdict}
-use Rattle.row.specs.Reading.{readRow}
 use Rattle.row.specs.Writing.{rowText}
 use Rattle.row.specs.Row.{RowPromise, rowOf, bufferLimit}
 use Rattle.row.specs.declared.Written.{Written}
@@ -24,10 +22,3 @@ RowTellsAnswer = (v v' : Verdict) → rowText v ≡ rowText v' → v ≡ v'
 -- a buffer that is long enough to be taken holds every row
 unfoldable pub RowsFit : Type 0
 RowsFit = (text : List ℕ) → length (rowOf text) ≤ bufferLimit
-
--- six numbers of seven bytes, and five spaces
-abbrev pub longestText : ℕ
-longestText = 47
-
-unfoldable pub LongTextIsNoRow : Type 0
-LongTextIsNoRow = (text : List ℕ) → longestText < length text → readRow text ≡ none

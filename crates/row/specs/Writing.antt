@@ -5,7 +5,7 @@ use Prim.Native.Nat.{ℕ, zero, suc, _+_, _/_, _%_}
 use lib.Dec.{ltb}
 use lib.IntN.{ℤ, pos, negsuc}
 use Rattle.point.specs.Paper.{Verdict, point, none-by-sign, none-by-prime, refusal}
-use Rattle.row.specs.Reading.{space, minus, digitZero}
+use Rattle.row_reader.specs.Reading.{space, minus, digitZero}
 
 abbrev pub lineFeed : ℕ
 lineFeed = 10

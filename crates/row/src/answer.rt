@@ -1,9 +1,8 @@
 // The answer to a text row, and its row text: what is written costs one step for each byte.
-use crate::reader;
-use crate::reader::Content;
 use crate::writer;
 use point::Point;
 use point::paper::Refusal;
+use row_reader::Content;
 use solve::Answer;
 use solve::Reason;
 use solve::Solved;
@@ -13,7 +12,7 @@ ghost use Prim.Native.Nat.{_≤_};
 ghost use lib.ListN.{length};
 ghost use Rattle.point.specs.Paper.{point};
 ghost use Rattle.solve.specs.Answer.{solved, reasonGiven};
-ghost use Rattle.row.specs.Reading.{readRow};
+ghost use Rattle.row_reader.specs.Reading.{readRow};
 ghost use Rattle.row.specs.Row.{verdictOn};
 ghost use Rattle.row.specs.Writing.{lineFeed, decimal, rowText};
 ghost use Rattle.row.specs.Buffer.{Wrote};
@@ -23,7 +22,7 @@ ghost use Rattle.row.specs.Texts.{refusalText, pointText};
 pub fn verdict(text: &[u8]) -> Solved
     ensures { λ r. ⌜ solved r ≡ verdictOn (readRow (now (text .entry))) ⌝ }
 {
-    let content = reader::read(text);
+    let content = row_reader::read(text);
     let Content::Conic(h) = content else {
         return Solved::Refused(Refusal::Row);
     };

@@ -3,7 +3,6 @@ use point::paper::Refusal;
 ghost use Rattle.row.specs.Row.{RowPromise};
 
 mod answer;
-mod reader;
 mod writer;
 
 // The bytes that a buffer for an output row must have.

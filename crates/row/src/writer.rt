@@ -2,7 +2,7 @@
 ghost use mathlib.Core.List.{[], _∷_};
 ghost use Prim.Native.Nat.{_+_, _≤_};
 ghost use lib.ListN.{length};
-ghost use Rattle.row.specs.Reading.{space};
+ghost use Rattle.row_reader.specs.Reading.{space};
 ghost use Rattle.row.specs.Writing.{decimal, signedDecimal};
 ghost use Rattle.row.specs.Buffer.{Wrote};
 

@@ -12,9 +12,9 @@ use lib.Dec.{ltb}
 use lib.ListN.{length, take, set, length-append, length-take, length-set}
 use lib.Seq.{take-all, take-append-le, take-suc-set}
 use Rattle.row.specs.Row.{rowOf, verdictOn}
-use Rattle.row.specs.Theorems.{LongTextIsNoRow}
+use Rattle.row_reader.specs.Theorems.{LongTextIsNoRow}
 use Rattle.row.specs.Writing.{rowText}
-use Rattle.row.proofs.LongTexts.{longTextIsNoRow}
+use Rattle.row_reader.proofs.LongTexts.{longTextIsNoRow}
 use Rattle.rows.specs.Cutter.{holding, keep, emptied, heldText}
 use Rattle.rows.specs.Input.{answers, lastRow}
 use Rattle.rows.specs.declared.Cutter.{Cutter}

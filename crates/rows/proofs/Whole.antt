@@ -5,7 +5,7 @@ use mathlib.Core.List.{List, [], _∷_, _++_, append-nil, append-assoc}
 use mathlib.Core.Path.{_≡_, refl, ap, ap₂, sym, _∙_}
 use Prim.Native.Nat.{ℕ}
 use lib.Dec.{eqb}
-use Rattle.row.specs.Reading.{inFront, partsAt}
+use Rattle.row_reader.specs.Reading.{inFront, partsAt}
 use Rattle.row.specs.Row.{rowOf}
 use Rattle.row.specs.Writing.{lineFeed}
 use Rattle.rows.specs.Cutter.{newCutter, keep, emptied, heldText, finishOf}

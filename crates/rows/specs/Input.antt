@@ -2,7 +2,7 @@
 -- one after another. Assumes nothing.
 use mathlib.Core.List.{List, [], _∷_, _++_}
 use Prim.Native.Nat.{ℕ}
-use Rattle.row.specs.Reading.{partsAt}
+use Rattle.row_reader.specs.Reading.{partsAt}
 use Rattle.row.specs.Row.{rowOf}
 use Rattle.row.specs.Writing.{lineFeed}
 

@@ -9,7 +9,7 @@ use mir.Val.{SFits, toZ, ofZ}
 use mir.Facts.{toZ-ofZ}
 use borrow.Author.Needs.{needs}
 use Rattle.point.specs.declared.Point.{Point}
-use Rattle.row.specs.Reading.{space}
+use Rattle.row_reader.specs.Reading.{space}
 use Rattle.row.specs.Writing.{lineFeed, signedDecimal, rowText}
 use Rattle.row.specs.Buffer.{Wrote}
 use Rattle.row.proofs.Buffer.{wrote-both, room-for-first, room-after}

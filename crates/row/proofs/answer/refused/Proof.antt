@@ -3,7 +3,7 @@ use mathlib.Core.Path.{_≡_, sym, ap, _∙_}
 use mathlib.Core.List.{[], _∷_, _++_}
 use Prim.Native.Nat.{ℕ}
 use borrow.Author.Needs.{needs}
-use Rattle.row.specs.Reading.{space}
+use Rattle.row_reader.specs.Reading.{space}
 use Rattle.row.specs.Writing.{lineFeed, decimal, rowText}
 use Rattle.row.specs.Texts.{refusalText}
 use Rattle.row.proofs.Buffer.{wrote-as, wrote-nothing}

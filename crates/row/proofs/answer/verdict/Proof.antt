@@ -1,7 +1,7 @@
 -- `row::answer::verdict` meets its contract, from what reading and solving promise. Assumes nothing.
 use mathlib.Core.Path.{sym, ap, _∙_}
 use borrow.Author.Needs.{needs}
-use Rattle.row.specs.Steps.{contentOf}
+use Rattle.row_reader.specs.Steps.{contentOf}
 use Rattle.row.specs.Row.{verdictOn}
 use Rattle.row.proofs.answer.verdict.Statement.{statement}
 use Rattle.row.proofs.answer.verdict.Tie as tie

@@ -7,7 +7,7 @@ use native.Mathlib.Omega.{arith}
 use lib.ListN.{length}
 use borrow.Fn.Kinds.{In}
 use borrow.Fn.PlainCycle.{Measures, is, falls, and}
-use Rattle.row.specs.Reading.{digitZero}
+use Rattle.row_reader.specs.Reading.{digitZero}
 use Rattle.row.specs.Writing.{decimal}
 use Rattle.row.proofs.Buffer.{wrote-as, wrote-length, wrote-both, room-for-first, room-after}
 use Rattle.row.proofs.Decimal.{decimal-small, decimal-large}

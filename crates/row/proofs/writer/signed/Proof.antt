@@ -12,7 +12,7 @@ use borrow.Author.Needs.{needs}
 use Rattle.whole.proofs.Order.{negsuc-<ℤ-pos, zero-≤ℤ-pos}
 use Rattle.whole.proofs.Signed.{ranges}
 use Rattle.whole.proofs.SignedTests.{tests, tells, leZ-true, leZ-false}
-use Rattle.row.specs.Reading.{minus}
+use Rattle.row_reader.specs.Reading.{minus}
 use Rattle.row.specs.Writing.{decimal, signedDecimal}
 use Rattle.row.proofs.Buffer.{wrote-as, wrote-both, room-for-first, room-after}
 use Rattle.row.proofs.writer.signed.Statement.{statement}

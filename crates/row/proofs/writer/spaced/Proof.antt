@@ -2,7 +2,7 @@
 use mathlib.Core.List.{[], _∷_}
 use mir.Facts.{toZ-ofZ}
 use borrow.Author.Needs.{needs}
-use Rattle.row.specs.Reading.{space}
+use Rattle.row_reader.specs.Reading.{space}
 use Rattle.row.specs.Writing.{signedDecimal}
 use Rattle.row.proofs.Buffer.{wrote-both, room-after}
 use Rattle.row.proofs.writer.spaced.Statement.{statement}

@@ -1,0 +1,4 @@
+pub mod Steps
+pub mod RestOfNumber
+pub mod Parts
+pub mod LongTexts
