@@ -1,56 +1,25 @@
--- The promise of a text row has one answer: it gives the answer's value, which tells the answer, and the buffer. Assumes nothing.
+-- The promise of a text row determines its answer, which can be told from what it stands for in the paper, and the buffer. Assumes
+-- nothing.
+use mathlib.Core.List.{List}
 use mathlib.Core.Path.{_≡_, refl, sym, ap, _∙_}
-use mathlib.Core.List.{List, [], _∷_}
 use Prim.Native.Nat.{ℕ}
-use lib.ListN.{getD}
-use Rattle.point.specs.Paper.{number}
-use Rattle.point.specs.declared.paper.Refusal.{Refusal}
-use Rattle.point.specs.declared.paper.Refusal.the-variants as Refusal
-use Rattle.row.specs.Row.{RowAnswer, row-length, no-row, written}
-use Rattle.row.specs.Theorems.{PromiseIsOne}
+use Rattle.point.proofs.Promise.{told-apart, numbered, numbered-number}
+use Rattle.row.specs.Row.{RowAnswer, row-length, no-row, written, RowPromise}
 use Rattle.row.specs.declared.Written.{Written}
 use Rattle.row.specs.declared.Written.the-variants as Written
 
--- the refusal of a number
-refusalAt : ℕ → Refusal
-refusalAt n =
-    getD
-    (Refusal.Range ∷ Refusal.Range ∷ Refusal.Degenerate ∷ Refusal.Range ∷ Refusal.Range ∷ Refusal.Base ∷ Refusal.BaseOff ∷
-    Refusal.Direction ∷ Refusal.Target ∷ Refusal.TargetOff ∷ Refusal.Row ∷ Refusal.Buffer ∷ Refusal.Layout ∷ Refusal.Body ∷
-    Refusal.Room ∷ Refusal.List ∷ Refusal.Number ∷ [])
-    n
-    Refusal.Range
+abbrev toWritten : RowAnswer → Written
+toWritten (row-length n) = Written.Length n
+toWritten (no-row n) = Written.Refused (numbered n)
 
-refusal-at-number : (r : Refusal) → refusalAt (number r) ≡ r
-unfolding refusalAt
-refusal-at-number Refusal.Range = refl
-refusal-at-number Refusal.Degenerate = refl
-refusal-at-number Refusal.Base = refl
-refusal-at-number Refusal.BaseOff = refl
-refusal-at-number Refusal.Direction = refl
-refusal-at-number Refusal.Target = refl
-refusal-at-number Refusal.TargetOff = refl
-refusal-at-number Refusal.Row = refl
-refusal-at-number Refusal.Buffer = refl
-refusal-at-number Refusal.Layout = refl
-refusal-at-number Refusal.Body = refl
-refusal-at-number Refusal.Room = refl
-refusal-at-number Refusal.List = refl
-refusal-at-number Refusal.Number = refl
+written-back : (r : Written) → toWritten (written r) ≡ r
+written-back (Written.Length n) = refl
+written-back (Written.Refused r) = ap Written.Refused (numbered-number r)
 
--- what an answer's value tells
-told : RowAnswer → Written
-told (row-length n) = Written.Length n
-told (no-row n) = Written.Refused (refusalAt n)
+pub same-written : (r r' : Written) → written r ≡ written r' → r ≡ r'
+same-written = told-apart written toWritten written-back
 
-told-written : (r : Written) → told (written r) ≡ r
-unfolding told
-told-written (Written.Length n) = refl
-told-written (Written.Refused r) = ap Written.Refused (refusal-at-number r)
-
-pub promiseIsOne : PromiseIsOne
-unfolding PromiseIsOne
-promiseIsOne text before r r' after after' p q = (
-  sym (told-written r) ∙ ap told (p .answer ∙ sym (q .answer)) ∙ told-written r',
-  p .buffer ∙ sym (q .buffer),
-)
+pub row-determined :
+    {text before after after' : List ℕ} {r r' : Written} → RowPromise text before r after → RowPromise text before r' after' →
+    (r ≡ r') × (after ≡ after')
+row-determined {r = r} {r' = r'} a b = (same-written r r' (a .answer ∙ sym (b .answer)), a .buffer ∙ sym (b .buffer))

@@ -5,4 +5,4 @@ pub mod GoesOn
 pub mod Rest
 pub mod Holds
 pub mod Whole
-pub mod Promises
+pub mod Promise

@@ -3,7 +3,6 @@ pub mod Polynomial
 pub mod Expression
 pub mod Ring
 pub mod Combination
-pub mod Identities
 pub mod Order
 pub mod Sums
 pub mod Size
