@@ -8,9 +8,9 @@ use native.Mathlib.Omega.{arith}
 use lib.Dec.{ltb}
 use lib.ListN.{length, drop, length-append}
 use borrow.Author.Tests.{ltb-false}
-use Rattle.row.specs.Row.{RowAnswer, RowPromise, row-length, no-row, rowOf, tooShort}
+use Rattle.row.specs.Row.{RowPromise, row-length, no-row, rowOf, tooShort}
 use Rattle.row.specs.declared.Written.the-variants as RowWritten
-use Rattle.book.specs.Writer.{WriterAnswer, book-length, no-book, bookOf, conicsOf, allInRange, wrongList, writerAnswer}
+use Rattle.book.specs.Writer.{book-length, no-book, bookOf, conicsOf, allInRange, wrongList, writerAnswer}
 
 pub row-within : {text before after : List ℕ} {n : ℕ} → RowPromise text before (RowWritten.Length n) after →
     length after ≡ length before → n ≤ length before

@@ -16,6 +16,7 @@ use Rattle.conic.specs.declared.conic.Conic.{Conic}
 use Rattle.direction.specs.Direction.{direction, no-direction, pointFrom, directionTo, tangent, pointOf, directionOf}
 use Rattle.direction.specs.Demand3.{OnConic, Based, Proper, Multiples, StepsAreRight, TangentGivesBase, SamePointExactly, EveryPointOnce, StepsUndo, EntriesGiveSteps}
 use Rattle.direction.proofs.Directions.{normal-direction-proper, normalDirection-of-normal, multiples-iff}
+use Rattle.direction.proofs.Tests.{legal-is-based}
 use Rattle.direction.proofs.Steps.{tangent-is-proper, pointFrom-on, directionTo-normal, pointFrom-normalDirection, pointFrom-tangent, pointFrom-directionTo, directionTo-pointFrom}
 
 -- ---- the steps
@@ -91,6 +92,7 @@ past-base refuse h p next l = λ i.
 pub entriesGiveSteps : EntriesGiveSteps
 unfolding EntriesGiveSteps pointOf directionOf
 entriesGiveSteps h p l = (
+  legal-is-based l,
   λ t d.
       past-base refusal h p _ l
       ∙ ap (λ b. cond b (point (pointFrom h p t)) (refusal 7)) (true-of-T (isDirection t) d),

@@ -67,9 +67,10 @@ StepsUndo =
     ((t : Direction) → Proper t → Multiples t (directionTo h p (pointFrom h p t))) ×
     ((t : Direction) → NormalDirection t → directionTo h p (pointFrom h p t) ≡ t)
 
--- 6. within the limits the entries give exactly what the steps give
+-- 6. a base that the entries take is one of the steps', and within the limits they give exactly what the steps give
 unfoldable pub EntriesGiveSteps : Type 0
 EntriesGiveSteps =
     (h : Conic) (p : Point) → LegalBase h p →
+    Based h p ×
     ((t : Direction) → T (isDirection t) → pointOf h p t ≡ point (pointFrom h p t)) ×
     ((q : Point) → T (isTarget q) → G h q ≡ pos 0 → directionOf h p q ≡ direction (directionTo h p q))

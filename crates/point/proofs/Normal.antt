@@ -184,11 +184,6 @@ zero-quotient (negsuc k) = ap (λ (n : ℕ). negℤ (pos n)) (zero-div (suc k))
 quotient-of-zero : {m : ℤ} (k : ℤ) → m ≡ pos 0 → quotZ m k ≡ pos 0
 quotient-of-zero k e = ap (λ m. quotZ m k) e ∙ zero-quotient k
 
-pub normal-of-zero : {p : Point} → Zero p → Zero (normal p)
-unfolding normal over
-normal-of-zero {p} (a, b, c) =
-    (quotient-of-zero (signedFactor p) a, quotient-of-zero (signedFactor p) b, quotient-of-zero (signedFactor p) c)
-
 -- a point at infinity stays there
 pub normal-at-infinity : (p : Point) → p .z ≡ pos 0 → normal p .z ≡ pos 0
 unfolding normal over

@@ -64,9 +64,6 @@ pub ≢-of-<ℤ : {a b : ℤ} → a <ℤ b → a ≢ b
 pub <ℤ-of-≤ℤ-≢ : {a b : ℤ} → a ≤ℤ b → a ≢ b → a <ℤ b
 <ℤ-of-≤ℤ-≢ h f = <ℤ-by-not (λ k. f (≤ℤ-antisym h k))
 
-pub ≤ℤ-total : (a b : ℤ) → (a ≤ℤ b) ⊎ (b ≤ℤ a)
-≤ℤ-total a b = ⊎-elim (λ h. inl (≤ℤ-of-<ℤ h)) inr (<ℤ-or-≤ℤ a b)
-
 pub data Ways (a b : ℤ) : Type 0 where
   below : a <ℤ b → Ways a b
   equal : a ≡ b → Ways a b

@@ -1,17 +1,15 @@
 -- What the machine's tests on signed numbers tell: a branch hands its arms an equation of the test's flag, or of the numbers'
 -- bits, and these turn it into a fact of the whole numbers that the operands stand for (`Signed`). Assumes nothing.
-use mathlib.Core.Path.{_≡_, refl, sym, ap, ap₂, _∙_, subst}
-use mathlib.Core.Logic.{_≢_}
+use mathlib.Core.Path.{_≡_, sym, ap, ap₂, _∙_, subst}
 use mathlib.Core.Bool.{Bool, true, false, not, _&&_}
-use Prim.Native.Nat.{ℕ, _<_}
-use native.Mathlib.Nat.{pos-of-ne-zero}
+use Prim.Native.Nat.{ℕ}
 use lib.Dec.{T, ltb}
 use lib.IntN.{ℤ, pos, natAbs}
 use lib.Signed.{_≤ℤ_, _<ℤ_, ltZ, leZ, nonNeg, ltZ-yes, ltZ-no, leZ-yes, yes-nonNeg}
 use lib.Ieee.Fits.{and-l, and-r}
 use mir.Syntax.{Width, w8, w16, w32, w64, w128}
 use mir.Val.{Fits, SFits, bits, hbits, toZ, ofZ}
-use mir.Facts.{toZ-inj, toZ-ofZ, fits-natAbs}
+use mir.Facts.{toZ-ofZ, fits-natAbs}
 use Rattle.whole.proofs.Order.{<ℤ-by-not}
 use Rattle.whole.proofs.Signed.{Sized, Stored, sizes}
 
@@ -52,21 +50,6 @@ leZ-false p = <ℤ-by-not (λ h. subst T p (h .le))
 
 pub same-number : (w : Width) {m n : ℕ} (d : Stored w m) (e : Stored w n) → T (d .room && e .room) → m ≡ n → d .value ≡ e .value
 same-number w d e t p = sym (d .same (and-l (d .room) _ t)) ∙ ap (toZ w) p ∙ e .same (and-r (d .room) _ t)
-
-pub other-number : (w : Width) {m n : ℕ} (d : Stored w m) (e : Stored w n) → T (d .room && e .room) → (m ≡ n → ⊥) → d .value ≢ e .value
-other-number w d e t f q =
-    f (toZ-inj (d .whole (and-l (d .room) _ t)) (e .whole (and-r (d .room) _ t)) (d .same (and-l (d .room) _ t) ∙ q ∙ sym (e .same (and-r (d .room) _ t))))
-
-zero-bits : (w : Width) → toZ w 0 ≡ pos 0
-zero-bits w8 = refl
-zero-bits w16 = refl
-zero-bits w32 = refl
-zero-bits w64 = refl
-zero-bits w128 = refl
-
--- a divisor that is not zero
-pub nonzero-bits : (w : Width) {n : ℕ} (e : Stored w n) → T (e .room) → e .value ≢ pos 0 → 0 < n
-nonzero-bits w e t f = pos-of-ne-zero (λ p. f (sym (e .same t) ∙ ap (toZ w) p ∙ zero-bits w))
 
 -- ---- a signed number cast to an unsigned one: m is not negative, which the number that it stands for says
 
