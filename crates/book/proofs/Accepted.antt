@@ -1,30 +1,24 @@
 -- A book that is accepted holds only true verdicts: a right body's content is true of its conic, by demand 2. Assumes nothing.
-use mathlib.Core.Bool.{Bool, true, false}
+use mathlib.Core.Bool.{false}
 use mathlib.Core.List.{List}
 use mathlib.Core.Path.{_≡_, sym, ap, subst}
 use Prim.Native.Nat.{ℕ, _+_}
 use lib.Dec.{T}
 use lib.IntN.{pos}
 use Rattle.number.proofs.Least.{true-of-T, not-true-of-false}
-use Rattle.point.specs.Paper.{Verdict, point, none-by-sign, none-by-prime, refusal}
+use Rattle.point.specs.Paper.{none-by-prime}
 use Rattle.conic.specs.Form.{Δ}
 use Rattle.conic.specs.Base.{inRange}
 use Rattle.conic.specs.declared.conic.Conic.{Conic}
 use Rattle.solve.specs.Demand2.{NonDegenerate, HasPoint, PointExactly, RightPoint, OneSignEverywhere, SignExactly}
 use Rattle.solve.specs.Solve.{solveOf}
-use Rattle.solve.proofs.Demand2.{pointExactly, signExactly}
+use Rattle.solve.proofs.Demand2.{isPoint, pointExactly, signExactly}
 use Rattle.book.specs.Layout.{conicAt, pointAt}
 use Rattle.book.specs.Reader.{ReaderAnswer, with-point, with-none-by-sign, with-none-by-prime, degenerate, no-entry, contentOf, readerAnswer}
 use Rattle.book.specs.Theorems.{RightBody, right-point, right-sign, right-prime, right-degenerate, TrueOf, AcceptedIsTrue}
 use Rattle.book.proofs.LegalPoints.{legal-is-right}
 use Rattle.book.proofs.Refusals.{Way, twelve, thirteen, sixteen, content, way, bodies-right}
 use Rattle.book.proofs.Verdicts.{isRefusal, answered}
-
-abbrev isPoint : Verdict → Bool
-isPoint (point p) = true
-isPoint none-by-sign = false
-isPoint (none-by-prime l) = false
-isPoint (refusal n) = false
 
 -- a none is true of all rationals
 no-point : (h : Conic) → isPoint (solveOf h) ≡ false → NonDegenerate h → ¬ HasPoint h

@@ -64,7 +64,7 @@ way h ok = by (true-or-false (isSquareNumber (negℤ (D h))))
 
 -- ---- verdicts are told apart
 
-abbrev isPoint : Verdict → Bool
+abbrev pub isPoint : Verdict → Bool
 isPoint (point p) = true
 isPoint none-by-sign = false
 isPoint (none-by-prime l) = false
