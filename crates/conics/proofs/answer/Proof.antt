@@ -1,5 +1,5 @@
--- `answer` is safe and ends: with room for a row each feed takes something and never more than is left of the piece, and what it wrote
--- lies within the buffer, which keeps its length. The measure is what is left of the piece. Assumes nothing.
+-- `conics::answer` is safe and ends: with room for a row each feed takes something and never more than is left of the piece, and
+-- what it wrote lies within the buffer, which keeps its length. The measure is what is left of the piece. Assumes nothing.
 use mathlib.Core.List.{List}
 use mathlib.Core.Path.{_≡_, sym, _∙_}
 use Prim.Native.Nat.{ℕ, _+_, _-_, _≤_, _<_}

@@ -1,4 +1,4 @@
--- `finish` is safe: the last row that was written lies within the buffer. Assumes nothing.
+-- `conics::finish` is safe: the last row that was written lies within the buffer. Assumes nothing.
 use mathlib.Core.Path.{sym}
 use borrow.Author.Needs.{needs}
 use lib.Seq.{length-take-le}

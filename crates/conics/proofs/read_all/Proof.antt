@@ -1,4 +1,5 @@
--- `read_all` is safe and ends: the buffers keep their lengths, and the measure is the number of reads that are left. Assumes nothing.
+-- `conics::read_all` is safe and ends: the buffers keep their lengths, and the measure is the number of reads that are left. Assumes
+-- nothing.
 use mathlib.Core.Path.{_≡_, refl, _∙_}
 use native.Mathlib.Omega.{arith}
 use lib.ListN.{length}

@@ -1,4 +1,4 @@
--- `answer` gives what `row` gives for the bytes held: as many as the row has, and never more than there are. Assumes nothing.
+-- `rows::answer` gives what `row` gives for the bytes held: as many as the row has, and never more than there are. Assumes nothing.
 use mathlib.Core.List.{List}
 use mathlib.Core.Path.{_≡_, ap, sym, _∙_, subst}
 use Prim.Native.Nat.{ℕ}

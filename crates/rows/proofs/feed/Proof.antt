@@ -1,5 +1,5 @@
--- `feed` meets its promise. The loop's invariant is `Going`: what it has so far, followed by what the definition makes of the rest,
--- is what the definition makes of the piece. The measure is what is left of the piece. Assumes nothing.
+-- `rows::feed` meets its promise. The loop's invariant is `Going`: what it has so far, followed by what the definition makes of the
+-- rest, is what the definition makes of the piece. The measure is what is left of the piece. Assumes nothing.
 use mathlib.Core.Logic.{⊎-elim}
 use mathlib.Core.Path.{_≡_, ap, _∙_}
 use Prim.Native.Nat.{ℕ, _-_}

@@ -1,4 +1,5 @@
--- `finish` meets its promise: a short buffer is refused first, an empty last row gives nothing, any other its row. Assumes nothing.
+-- `rows::finish` meets its promise: a short buffer is refused first, an empty last row gives nothing, any other its row. Assumes
+-- nothing.
 use mathlib.Core.Path.{_≡_, sym, _∙_}
 use Prim.Native.Nat.{ℕ}
 use borrow.Author.Needs.{needs}

@@ -1,5 +1,6 @@
--- `residue::by_powers` gives the least root: by Fermat a power that does not leave 1 refutes a root; a candidate that squares to the
--- residue is a root, and of it and its opposite the smaller is the least; else every number is tried. Assumes nothing.
+-- `number::residue::by_powers` gives the least root: by Fermat a power that does not leave 1 refutes a root; a candidate that
+-- squares to the residue is a root, and of it and its opposite the smaller is the least; else every number is tried. Assumes
+-- nothing.
 use mathlib.Core.Path.{_≡_, sym, ap, _∙_}
 use Prim.Native.Nat.{_-_, min}
 use native.Mathlib.Omega.{arith}

@@ -1,5 +1,5 @@
--- `residue::least_root` meets its contract: the least root depends only on the number's remainder; 0 and 1 are their own roots, and
--- any other residue goes to the search or to the powers, which have the contract for it. Assumes nothing.
+-- `number::residue::least_root` meets its contract: the least root depends only on the number's remainder; 0 and 1 are their own
+-- roots, and any other residue goes to the search or to the powers, which have the contract for it. Assumes nothing.
 use mathlib.Core.Path.{_≡_, sym, ap, _∙_}
 use Prim.Native.Nat.{ℕ}
 use native.Mathlib.Omega.{arith}

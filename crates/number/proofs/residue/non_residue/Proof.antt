@@ -1,4 +1,5 @@
--- `residue::non_residue` meets its contract: the number stays below the prime. The measure is what is left up to it. Assumes nothing.
+-- `number::residue::non_residue` meets its contract: the number stays below the prime. The measure is what is left up to it. Assumes
+-- nothing.
 use Prim.Native.Nat.{_-_, _≤_, _<_}
 use native.Mathlib.Omega.{arith}
 use Rattle.number.proofs.residue.non_residue.Statement.{statement}

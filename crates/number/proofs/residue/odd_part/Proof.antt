@@ -1,4 +1,5 @@
--- `residue::odd_part` meets its contract: halving keeps a positive even number positive. The measure is the number left. Assumes nothing.
+-- `number::residue::odd_part` meets its contract: halving keeps a positive even number positive. The measure is the number left.
+-- Assumes nothing.
 use Prim.Native.Nat.{_≤_, _<_}
 use native.Mathlib.Omega.{arith}
 use Rattle.number.proofs.residue.odd_part.Statement.{statement}

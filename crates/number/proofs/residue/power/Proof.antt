@@ -1,5 +1,5 @@
--- `residue::power` meets its contract. The loop's invariant: result·squareˡᵉᶠᵗ leaves what the power leaves. The measure is what is
--- left of the exponent. Assumes nothing.
+-- `number::residue::power` meets its contract. The loop's invariant: result·squareˡᵉᶠᵗ leaves what the power leaves. The measure is
+-- what is left of the exponent. Assumes nothing.
 use mathlib.Core.Path.{_≡_, sym, _∙_, ap}
 use mathlib.Core.Logic.{⊎-elim}
 use Prim.Native.Nat.{ℕ, _*_, _^_, _/_, _%_, _<_}

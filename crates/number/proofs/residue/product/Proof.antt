@@ -1,4 +1,4 @@
--- `residue::product` meets its contract: residues below 2³² have a product below 2⁶⁴. Assumes nothing.
+-- `number::residue::product` meets its contract: residues below 2³² have a product below 2⁶⁴. Assumes nothing.
 use Prim.Native.Nat.{_*_}
 use native.Mathlib.Nat.{mod-lt}
 use native.Mathlib.Omega.{arith}

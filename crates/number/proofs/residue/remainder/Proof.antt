@@ -1,4 +1,4 @@
--- `residue::remainder` meets its contract, by the number's sign. Assumes nothing.
+-- `number::residue::remainder` meets its contract, by the number's sign. Assumes nothing.
 use mathlib.Core.Path.{_≡_, refl, ap, _∙_}
 use Prim.Native.Nat.{ℕ, suc, _-_, _%_, _≤_}
 use native.Mathlib.Nat.{mod-lt}

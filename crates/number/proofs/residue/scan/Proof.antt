@@ -1,5 +1,5 @@
--- `residue::scan` gives the least root. The loop's invariant: the square is that of the root modulo the prime, and no number below
--- the root is a root. The measure is what is left up to the prime. Assumes nothing.
+-- `number::residue::scan` gives the least root. The loop's invariant: the square is that of the root modulo the prime, and no number
+-- below the root is a root. The measure is what is left up to the prime. Assumes nothing.
 use mathlib.Core.Path.{_≡_, sym, _∙_}
 use mathlib.Core.Logic.{⊎-elim}
 use Prim.Native.Nat.{ℕ, _+_, _*_, _-_, _%_, _≤_, _<_}

@@ -1,4 +1,5 @@
--- `residue::tonelli_shanks` meets its contract: products modulo the prime are below it. The measure is the exponent left to try. Assumes nothing.
+-- `number::residue::tonelli_shanks` meets its contract: products modulo the prime are below it. The measure is the exponent left to
+-- try. Assumes nothing.
 use Prim.Native.Nat.{_<_}
 use native.Mathlib.Omega.{arith}
 use Rattle.number.proofs.residue.tonelli_shanks.Statement.{statement}

@@ -1,5 +1,5 @@
--- `Cutter::keep` gives the cutter of `keep`: below the limit the byte is set at the row's end, from the limit on nothing changes.
--- Assumes nothing.
+-- `rows::Cutter::keep` gives the cutter of `keep`: below the limit the byte is set at the row's end, from the limit on nothing
+-- changes. Assumes nothing.
 use borrow.Author.Needs.{needs}
 use borrow.Author.Tests.{lt-ltb, le-ltb}
 use Rattle.rows.specs.Cutter.{keep}
