@@ -5,8 +5,6 @@ use Rattle.conic.specs.Base.{Judgement, legal, refused, judged}
 use Rattle.conic.specs.declared.base.Judged.{Judged}
 use Rattle.conic.specs.declared.base.Judged.the-variants as Judged
 
--- ---- answers
-
 abbrev toJudged : Judgement → Judged
 toJudged legal = Judged.Legal
 toJudged (refused n) = Judged.Refused (numbered n)
@@ -14,8 +12,6 @@ toJudged (refused n) = Judged.Refused (numbered n)
 judged-back : (r : Judged) → toJudged (judged r) ≡ r
 judged-back Judged.Legal = refl
 judged-back (Judged.Refused r) = ap Judged.Refused (numbered-number r)
-
--- ---- two answers that a promise allows are equal
 
 pub judge-determined : (r r' : Judged) → judged r ≡ judged r' → r ≡ r'
 judge-determined = told-apart judged toJudged judged-back

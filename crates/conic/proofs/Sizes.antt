@@ -12,8 +12,6 @@ use Rattle.conic.specs.Base.{inRange}
 use Rattle.conic.specs.Sizes.{InLimit}
 use Rattle.conic.specs.declared.conic.Conic.{Conic}
 
--- ---- what the limit on the coefficients gives
-
 abbrev pub limit-D : ℕ
 limit-D = 5 * (coefficientLimit * coefficientLimit)
 

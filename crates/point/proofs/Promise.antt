@@ -12,8 +12,6 @@ use Rattle.point.specs.declared.Direction.{Direction}
 pub told-apart : {A B : Type 0} (f : A → B) (back : B → A) → ((a : A) → back (f a) ≡ a) → (a a' : A) → f a ≡ f a' → a ≡ a'
 told-apart f back there a a' e = sym (there a) ∙ ap back e ∙ there a'
 
--- ---- refusals
-
 -- the refusal of a number; any where there is none
 abbrev pub numbered : ℕ → Refusal
 numbered n =

@@ -68,7 +68,7 @@ module _ {h : Conic} {d₁ e₁ : ℤ} {s t : ℕ} {p g q : ℤ} (v : LevelledBy
       of-aΔ : natAbs aΔ ≤ limit-aΔ
       of-aΔ = aΔ-size h l
 
--- ---- the point, before and after the division
+-- ---- the point, before the division
 
 pub from-primed-within : (h : Conic) (m : Point) → InLimit h → PrimedWithin m → PointWithin pointLimit (fromPrimed h m)
 unfolding fromPrimed
