@@ -1,12 +1,11 @@
 -- A refusal can be told from its number in the paper, so two with the same number are equal. Assumes nothing.
 use mathlib.Core.Path.{_≡_, refl, sym, ap, _∙_}
-use mathlib.Core.List.{List, [], _∷_}
+use mathlib.Core.List.{[], _∷_}
 use Prim.Native.Nat.{ℕ}
 use lib.ListN.{getD}
 use Rattle.point.specs.Paper.{number}
 use Rattle.point.specs.declared.paper.Refusal.{Refusal}
 use Rattle.point.specs.declared.paper.Refusal.the-variants as Refusal
-use Rattle.point.specs.declared.Direction.{Direction}
 
 -- what goes there and back is determined by what it becomes
 pub told-apart : {A B : Type 0} (f : A → B) (back : B → A) → ((a : A) → back (f a) ≡ a) → (a a' : A) → f a ≡ f a' → a ≡ a'

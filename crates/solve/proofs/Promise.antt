@@ -1,7 +1,6 @@
 -- The promise of solve determines its answer, which can be told from what it stands for in the paper. Assumes nothing.
 use mathlib.Core.Path.{_≡_, refl, sym, ap, _∙_}
 use Rattle.point.specs.Paper.{Verdict, point, none-by-sign, none-by-prime, refusal}
-use Rattle.point.specs.declared.Point.{Point}
 use Rattle.point.proofs.Promise.{told-apart, numbered, numbered-number}
 use Rattle.conic.specs.declared.conic.Conic.{Conic}
 use Rattle.solve.specs.Answer.{solved}

@@ -12,7 +12,7 @@ use Rattle.whole.proofs.Signed.{casts, ranges, fits, reads}
 use Rattle.whole.proofs.SignedTests.{tests, tells, ltZ-true, ltZ-false}
 use Rattle.number.specs.Gcd.{gcdOf}
 use Rattle.number.proofs.Gcd.{gcd-zero, gcd-divides-right}
-use Rattle.point.specs.Normal.{commonFactor, leading, signed, largest}
+use Rattle.point.specs.Normal.{commonFactor, signed, largest}
 use Rattle.point.specs.Sizes.{PointWithin}
 use Rattle.point.specs.declared.Point.{Point}
 use Rattle.point.proofs.Point.divisor.Statement.{statement}

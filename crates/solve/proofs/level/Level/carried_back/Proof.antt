@@ -4,7 +4,7 @@ use mathlib.Core.Path.{_≡_, sym, ap, _∙_, subst}
 use lib.Dec.{lit≤}
 use borrow.Author.Needs.{needs, sfits-of}
 use Rattle.legendre.specs.declared.outcome.Triple.{Triple}
-use Rattle.point.specs.Normal.{normal, normalWithin}
+use Rattle.point.specs.Normal.{normalWithin}
 use Rattle.point.specs.declared.Point.{Point}
 use Rattle.point.proofs.Limits.{within-wider, normalWithin-is-normal, normal-passed}
 use Rattle.conic.specs.declared.conic.Conic.{Conic}
