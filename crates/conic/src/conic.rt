@@ -1,9 +1,10 @@
-// A conic: the row of its six coefficients; its polynomial G, the partial derivatives, L, D, Δ and k.
+// A conic: the row of its six coefficients; its polynomial G, the partial derivatives, L, D, Δ and k, and the second point of a line.
 use point::Point;
 use point::paper::COEFFICIENT_LIMIT;
 use point::size;
 ghost use mathlib.Core.Path.{_≡_};
 ghost use lib.IntN.{_*ℤ_, _+ℤ_};
+ghost use Rattle.point.specs.Normal.{normal};
 ghost use Rattle.conic.specs.Base.{inRange};
 ghost use Rattle.conic.specs.Form.{G, Gx, Gy, Gz, L, D, Δ, k, drawn};
 ghost use Rattle.conic.specs.Sizes.{ProductsFit, InLimit, ConicAt, ConicAlong};
@@ -84,7 +85,7 @@ impl Conic {
         dot(self.b, 2 * self.c, self.e, p.x, p.y, p.z)
     }
 
-    pub fn derivative_by_z(self, p: Point) -> i64
+    fn derivative_by_z(self, p: Point) -> i64
         requires { ⌜ ConicAt self p ⌝ }
         ensures { λ r. ⌜ r ≡ Gz self p ⌝ }
     {
@@ -106,8 +107,8 @@ impl Conic {
         )
     }
 
-    // G(T)·S - L(S, T)·T, the other point of the line from S along T: 49 steps.
-    pub fn drawn(self, s: Point, t: Point) -> Point
+    // G(T)·S - L(S, T)·T: 49 steps.
+    fn drawn(self, s: Point, t: Point) -> Point
         requires { ⌜ ConicAlong self s t ⌝ }
         ensures { λ r. ⌜ r ≡ drawn self s t ⌝ }
     {
@@ -118,5 +119,14 @@ impl Conic {
             y: g * s.y - l * t.y,
             z: g * s.z - l * t.z,
         }
+    }
+
+    // Where the line from S along T meets the conic again: 49 steps and a normal form.
+    pub fn other_point(self, s: Point, t: Point) -> Point
+        requires { ⌜ ConicAlong self s t ⌝ }
+        ensures { λ r. ⌜ r ≡ normal (drawn self s t) ⌝ }
+    {
+        let p = self.drawn(s, t);
+        Point::normal(p.x, p.y, p.z)
     }
 }

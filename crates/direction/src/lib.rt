@@ -2,18 +2,17 @@
 use conic::base::Judged;
 use conic::base::judge;
 use conic::conic::Conic;
-use conic::line;
 use point::Direction;
 use point::Point;
 use point::paper::Refusal;
 use point::size;
 ghost use mathlib.Core.Path.{_≡_};
 ghost use mathlib.Core.Bool.{cond};
-ghost use Rattle.direction.specs.Direction.{isSame, tangent, chord, pointFrom, directionTo, PointPromise, DirectionPromise};
 ghost use Rattle.point.specs.Normal.{atInfinity};
 ghost use Rattle.point.specs.Paper.{pointLimit};
 ghost use Rattle.point.specs.Sizes.{PointWithin};
 ghost use Rattle.conic.specs.Sizes.{ConicAt, ConicAlong};
+ghost use Rattle.direction.specs.Direction.{isSame, tangent, chord, pointFrom, directionTo, PointPromise, DirectionPromise};
 
 // The point that a base's direction leads to.
 pub enum Reached {
@@ -85,8 +84,7 @@ fn point_from(h: Conic, p: Point, t: Direction) -> Point
     requires { ⌜ ConicAlong h p (atInfinity t) ⌝ }
     ensures { λ r. ⌜ r ≡ pointFrom h p t ⌝ }
 {
-    line::other_point(
-        h,
+    h.other_point(
         p,
         Point {
             x: t.u,

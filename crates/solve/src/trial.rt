@@ -1,6 +1,5 @@
 // The point of a conic whose -D is a square: from its point at infinity, along the first trial line that leads on.
 use conic::conic::Conic;
-use conic::line;
 use number::roots;
 use point::Point;
 use point::size;
@@ -56,5 +55,5 @@ pub fn from_infinity(h: Conic) -> Point
     ensures { λ r. ⌜ r ≡ fromInfinity h ⌝ }
 {
     let s = start(h);
-    line::other_point(h, s, trial_line(h, s))
+    h.other_point(s, trial_line(h, s))
 }
