@@ -1,7 +1,6 @@
 -- The book of a list determines the list: the count is read back, and the reader gives back each conic. Assumes nothing.
 use mathlib.Core.Path.{_≡_, refl, sym, ap, _∙_}
 use native.Mathlib.Omega.{arith}
-use lib.IntN.{pos}
 use lib.ListN.{length, getD}
 use lib.Seq.{ext-getD}
 use Rattle.point.specs.Paper.{Verdict, point, none-by-sign, none-by-prime, refusal}
@@ -11,12 +10,9 @@ use Rattle.book.specs.Layout.{countOf}
 use Rattle.book.specs.Reader.{ReaderAnswer, with-point, with-none-by-sign, with-none-by-prime, degenerate, no-entry, readerAnswer}
 use Rattle.book.specs.Theorems.{withVerdict, WrittenIsRead, BookDeterminesList}
 use Rattle.book.proofs.ContentsBack.{count-back}
-use Rattle.book.proofs.WrittenIsRead.{writtenIsRead}
+use Rattle.book.proofs.WrittenIsRead.{blank, writtenIsRead}
 
 -- any conic, where there is none
-abbrev blank : Conic
-blank = record { a = pos 0; b = pos 0; c = pos 0; d = pos 0; e = pos 0; f = pos 0 }
-
 abbrev conicOf : ReaderAnswer → Conic
 conicOf (with-point h p) = h
 conicOf (with-none-by-sign h) = h
@@ -37,9 +33,9 @@ bookDeterminesList hs hs' range range' limit limit' e =
     ext-getD blank hs hs' same-length
     (λ i below.
     sym (own-conic (getD hs i blank) (solveOf (getD hs i blank)))
-    ∙ ap conicOf (sym (writtenIsRead hs range limit i blank below))
+    ∙ ap conicOf (sym (writtenIsRead hs range limit .0 i blank below))
     ∙ ap (λ book. conicOf (readerAnswer book i)) e
-    ∙ ap conicOf (writtenIsRead hs' range' limit' i blank (omega (arith, same-length)))
+    ∙ ap conicOf (writtenIsRead hs' range' limit' .0 i blank (omega (arith, same-length)))
     ∙ own-conic (getD hs' i blank) (solveOf (getD hs' i blank)))
   where
     same-length : length hs ≡ length hs'

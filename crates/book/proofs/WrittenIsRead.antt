@@ -1,11 +1,12 @@
--- What the writer writes, the reader accepts, and gives back each conic with solve's answer: a body is read back by its conic's
--- verdict, and is right by demand 2. Assumes nothing.
+-- What the writer writes, the reader accepts: it gives back each conic with solve's answer, since a body is read back by its conic's
+-- verdict and is right by demand 2, and 16 past the last. Assumes nothing.
 use mathlib.Core.Bool.{true, and-eq-true-iff}
 use mathlib.Core.List.{List, [], _∷_, _++_, append-assoc}
 use mathlib.Core.Path.{_≡_, refl, ap, ap₂, _∙_}
 use Prim.Native.Nat.{ℕ, zero, suc, _≤_, _<_}
 use native.Mathlib.Omega.{arith}
 use lib.Dec.{T}
+use lib.IntN.{pos}
 use lib.ListN.{length, getD, drop}
 use Rattle.number.proofs.Least.{true-of-T, T-of-true}
 use Rattle.point.specs.Paper.{Verdict, point, none-by-sign, none-by-prime, refusal}
@@ -26,7 +27,7 @@ use Rattle.book.proofs.LegalPoints.{right-is-legal}
 use Rattle.book.proofs.Parts.{startOf, body-at}
 use Rattle.book.proofs.PrimeFits.{prime-fits}
 use Rattle.book.proofs.ReadBack.{conic-read, point-read, prime-read}
-use Rattle.book.proofs.Reading.{is-content}
+use Rattle.book.proofs.Reading.{is-sixteen, is-content}
 use Rattle.book.proofs.RightBodies.{test-of-right}
 use Rattle.book.proofs.Verdicts.{isRefusal, answered, refused, point-fits}
 
@@ -83,17 +84,32 @@ body-back hs range limit i h below =
     rw (end-back hs limit h i (omega arith))
     (stored-body (bookOf hs) (startOf hs i) (getD hs i h) (solveOf (getD hs i h)) rest (all-range hs range i h below) refl body)
 
+-- any conic: what stands past the end of a list
+abbrev pub blank : Conic
+blank = record { a = pos 0; b = pos 0; c = pos 0; d = pos 0; e = pos 0; f = pos 0 }
+
+module _ (hs : List Conic) (range : T (allInRange hs)) (limit : length hs ≤ countLimit) where
+  layout : layoutHolds (bookOf hs) ≡ true
+  layout = layout-right (bookOf hs) .1 (layout-back hs limit blank)
+
+  bodies : everyBelow (bodyHolds (bookOf hs)) (countOf (bookOf hs)) ≡ true
+  unfolding bodyHolds
+  bodies =
+      let count = count-back hs limit in
+      every-holds (bodyHolds (bookOf hs)) (countOf (bookOf hs))
+      (λ j inside.
+      let own : j < length hs = omega arith in
+      rw (kind-back hs limit blank j own)
+      (test-of-right (bookOf hs) (bodiesEnd (bookOf hs) j) (body-back hs range limit j blank own .right)))
+
 pub writtenIsRead : WrittenIsRead
-unfolding WrittenIsRead bodyHolds
-writtenIsRead hs range limit i h below =
+unfolding WrittenIsRead
+writtenIsRead hs range limit =
     let book = bookOf hs in
-    let count = count-back hs limit in
-    let layout : layoutHolds book ≡ true = layout-right book .1 (layout-back hs limit h) in
-    let bodies : everyBelow (bodyHolds book) (countOf book) ≡ true =
-    every-holds (bodyHolds book) (countOf book)
-    (λ j inside.
-    let own : j < length hs = omega arith in
-    rw (kind-back hs limit h j own) (test-of-right book (bodiesEnd book j) (body-back hs range limit j h own .right))) in
-    is-content book i layout bodies (omega arith)
-    ∙ ap (λ (k : ℕ). contentOf k book (bodiesEnd book i)) (kind-back hs limit h i below)
-    ∙ body-back hs range limit i h below .said
+    let count = count-back hs limit in (
+      λ i h below.
+          is-content book i (layout hs range limit) (bodies hs range limit) (omega arith)
+          ∙ ap (λ (k : ℕ). contentOf k book (bodiesEnd book i)) (kind-back hs limit h i below)
+          ∙ body-back hs range limit i h below .said,
+      λ i past. is-sixteen book i (layout hs range limit) (bodies hs range limit) (omega arith),
+    )

@@ -65,11 +65,12 @@ withVerdict h none-by-sign = with-none-by-sign h
 withVerdict h (none-by-prime l) = with-none-by-prime h l
 withVerdict h (refusal n) = degenerate h
 
--- what the writer writes, the reader accepts, and gives back each conic with solve's answer
+-- what the writer writes, the reader accepts: it gives back each conic with solve's answer, and 16 past the last
 unfoldable pub WrittenIsRead : Type 0
 WrittenIsRead =
-    (hs : List Conic) → T (allInRange hs) → length hs ≤ countLimit → (i : ℕ) (h : Conic) → i < length hs →
-    readerAnswer (bookOf hs) i ≡ withVerdict (getD hs i h) (solveOf (getD hs i h))
+    (hs : List Conic) → T (allInRange hs) → length hs ≤ countLimit →
+    ((i : ℕ) (h : Conic) → i < length hs → readerAnswer (bookOf hs) i ≡ withVerdict (getD hs i h) (solveOf (getD hs i h))) ×
+    ((i : ℕ) → length hs ≤ i → readerAnswer (bookOf hs) i ≡ no-entry 16)
 
 -- a point that is read lies on its conic; a none that is read is true of all rationals
 pub record TrueOf (h : Conic) (r : ReaderAnswer) : Type 0 where

@@ -31,10 +31,10 @@ use Rattle.conic.specs.declared.conic.Conic.{Conic}
 use Rattle.conic.proofs.Drawn.{drawn-on}
 use Rattle.conic.proofs.Form.{normal-on-iff}
 use Rattle.conic.proofs.Sizes.{in-limit}
-use Rattle.solve.specs.Demand2.{NonDegenerate, HasPoint, PointExactly, RightPoint, PointIsRight, OneSignEverywhere, SignExactly, LevelledBy, PrimeIsTrue, SquareDiscriminant, SquareHasPoint, PointIsChosen}
+use Rattle.solve.specs.Demand2.{NonDegenerate, HasPoint, PointExactly, RightPoint, PointIsRight, OneSignEverywhere, SignExactly, LevelledBy, PrimeIsTrue, SquareDiscriminant, SquareHasPoint, SquareIsChosen, LevelExists, PointIsChosen}
 use Rattle.solve.specs.Level.{levelOf, primed, fromPrimed, carriedBack}
 use Rattle.solve.specs.Solve.{isSquareNumber, startAtInfinity, trialLine, fromInfinity, outcomeCarried, solveLevelled, solveNonDegenerate, solveOf}
-use Rattle.solve.proofs.Infinity.{is-square-iff, AtInfinity, start, Trial, trial, drawn-z, start-within, drawn-within}
+use Rattle.solve.proofs.Infinity.{is-square-iff, AtInfinity, start, starts, Trial, trial, drawn-z, start-within, drawn-within}
 use Rattle.solve.proofs.Levelling.{levellable, levelled-by-own, level, level-unique, levelled, down, up, w-not-zero, z-not-zero}
 use Rattle.solve.proofs.Sign.{not-square, sign-iff}
 use Rattle.solve.proofs.Sizes.{primed-within, from-primed-within}
@@ -185,7 +185,7 @@ module _ {h : Conic} {d₁ e₁ : ℤ} {s t : ℕ} {p g q : ℤ} (v : LevelledBy
       small : InLimit h
       small = in-limit h (ok .in-range)
 
--- ---- the six statements
+-- ---- the statements
 
 pub squareHasPoint : SquareHasPoint
 unfolding SquareHasPoint
@@ -194,6 +194,27 @@ squareHasPoint h ok square = by (way h ok)
     by : Way h → (p : Point) × (solveOf h ≡ point p)
     by (from-square r e) = (fromInfinity h, e)
     by (by-level plain e) = absurd (plain square)
+
+pub squareIsChosen : SquareIsChosen
+unfolding SquareIsChosen fromInfinity
+squareIsChosen h r ok e = (
+  startAtInfinity h,
+  trialLine h (startAtInfinity h),
+  starts h r e,
+  trial h (startAtInfinity h) (ok .not-zero) (start h square .not-zero) .leads,
+  by (way h ok),
+)
+  where
+    square : SquareDiscriminant h
+    square = (pos r, e)
+
+    by : Way h → solveOf h ≡ point (fromInfinity h)
+    by (from-square _ given) = given
+    by (by-level plain _) = absurd (plain square)
+
+pub levelExists : LevelExists
+unfolding LevelExists
+levelExists h ok plain = (_, _, _, _, _, _, _, levelled-by-own (levellable (ok .not-zero) plain))
 
 pub pointIsChosen : PointIsChosen
 unfolding PointIsChosen

@@ -1,6 +1,6 @@
 -- Where −D = r²: S lies on the conic at infinity, and one of the three trial lines has L(S, T) ≠ 0, since the derivatives of a
 -- non-degenerate conic vanish together only at 0. So the point drawn from S has z = −L(S, T) ≠ 0. Assumes nothing.
-use mathlib.Core.Path.{_≡_, refl, sym, ap, _∙_}
+use mathlib.Core.Path.{_≡_, refl, sym, ap, _∙_, subst}
 use mathlib.Core.Bool.{true, true≢false}
 use mathlib.Core.Logic.{_≢_, _↔_}
 use mathlib.Core.List.{[], _∷_}
@@ -26,7 +26,7 @@ use Rattle.conic.specs.Sizes.{InLimit}
 use Rattle.conic.specs.declared.conic.Conic.{Conic}
 use Rattle.conic.proofs.Gram.{zero-if-singular}
 use Rattle.conic.proofs.Sizes.{limit-D, D-size}
-use Rattle.solve.specs.Demand2.{SquareDiscriminant}
+use Rattle.solve.specs.Demand2.{SquareDiscriminant, StartsAt, where-a-is-zero, where-a-is-not, LeadsFirst, the-first, the-second, the-third}
 use Rattle.solve.specs.Sizes.{limit-W'}
 use Rattle.solve.specs.Solve.{isSquareNumber, firstLine, secondLine, thirdLine, trialLine, startAtInfinity}
 use Rattle.solve.proofs.Levelling.{positive-not-zero}
@@ -77,10 +77,26 @@ start h square =
       z-zero = refl;
     })
 
+-- the start by any r ≥ 0 with −D = r²
+pub starts : (h : Conic) (r : ℕ) → negℤ (D h) ≡ pos (r * r) → StartsAt h r (startAtInfinity h)
+unfolding startAtInfinity
+starts h r e =
+    cond-cases (StartsAt h r) (isZero (h .a))
+    (λ t. where-a-is-zero (isZero-iff .0 t))
+    (λ f. subst (λ (n : ℕ). StartsAt h r (record { x = pos n -ℤ h .b; y = pos 2 *ℤ h .a; z = pos 0 })) (sym root-is-r)
+    (where-a-is-not (not-zero-of-false f)))
+  where
+    size : natAbs (D h) ≡ r * r
+    size = sym (natAbs-neg (D h)) ∙ ap natAbs e
+
+    root-is-r : rootOf (natAbs (D h)) ≡ r
+    root-is-r = ap rootOf size ∙ root-of-square r
+
 -- ---- the trial line
 
 pub record Trial (h : Conic) (s t : Point) : Type 0 where
   pub meets : L h s t ≢ pos 0
+  pub leads : LeadsFirst h s t
   pub x-small : natAbs (t .x) ≤ 1
   pub y-small : natAbs (t .y) ≤ 1
   pub z-one : t .z ≡ pos 1
@@ -100,9 +116,9 @@ unfolding trialLine
 trial h s Δ≢0 s≢0 =
     cond-cases (Trial h s) (isZero (L h s firstLine))
     (λ e. cond-cases (Trial h s) (isZero (L h s secondLine))
-    (λ f. record { meets = last e f; x-small = zero-le; y-small = le-refl 1; z-one = refl })
-    (λ f. record { meets = not-zero-of-false f; x-small = le-refl 1; y-small = zero-le; z-one = refl }))
-    (λ e. record { meets = not-zero-of-false e; x-small = zero-le; y-small = zero-le; z-one = refl })
+    (λ f. record { meets = last e f; leads = the-third (isZero-iff .0 e) (isZero-iff .0 f) (last e f); x-small = zero-le; y-small = le-refl 1; z-one = refl })
+    (λ f. record { meets = not-zero-of-false f; leads = the-second (isZero-iff .0 e) (not-zero-of-false f); x-small = le-refl 1; y-small = zero-le; z-one = refl }))
+    (λ e. record { meets = not-zero-of-false e; leads = the-first (not-zero-of-false e); x-small = zero-le; y-small = zero-le; z-one = refl })
   where
     last : isZero (L h s firstLine) ≡ true → isZero (L h s secondLine) ≡ true → L h s thirdLine ≢ pos 0
     last e f g =

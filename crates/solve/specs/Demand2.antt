@@ -4,20 +4,20 @@ use mathlib.Core.Path.{_≡_}
 use mathlib.Core.Logic.{_⊎_, _↔_}
 use Prim.Native.Nat.{ℕ, _*_, _≤_}
 use lib.Dec.{T}
-use lib.IntN.{ℤ, pos, negℤ, natAbs, _*ℤ_}
+use lib.IntN.{ℤ, pos, negℤ, natAbs, _-ℤ_, _*ℤ_}
 use lib.Signed.{_<ℤ_}
 use Rattle.number.specs.Gcd.{gcdOf}
 use Rattle.number.specs.Squarefree.{Squarefree}
 use Rattle.legendre.specs.Answer.{Chosen, LeastFailing}
 use Rattle.legendre.specs.declared.outcome.Triple.{Triple}
-use Rattle.point.specs.Normal.{NormalForm}
+use Rattle.point.specs.Normal.{normal, NormalForm}
 use Rattle.point.specs.Paper.{point, none-by-sign, none-by-prime, pointLimit}
 use Rattle.point.specs.declared.Point.{Point}
-use Rattle.conic.specs.Form.{G, D, Δ}
+use Rattle.conic.specs.Form.{G, L, D, Δ, drawn}
 use Rattle.conic.specs.Base.{inRange}
 use Rattle.conic.specs.declared.conic.Conic.{Conic}
 use Rattle.solve.specs.Level.{carriedBack}
-use Rattle.solve.specs.Solve.{solveOf}
+use Rattle.solve.specs.Solve.{firstLine, secondLine, thirdLine, solveOf}
 
 pub record NonDegenerate (h : Conic) : Type 0 where
   pub in-range : T (inRange h)
@@ -82,7 +82,30 @@ SquareDiscriminant h = (r : ℤ) × (negℤ (D h) ≡ r *ℤ r)
 unfoldable pub SquareHasPoint : Type 0
 SquareHasPoint = (h : Conic) → NonDegenerate h → SquareDiscriminant h → (p : Point) × (solveOf h ≡ point p)
 
--- 6. otherwise a point is carried back from the levelled solution with the least W, then the least X, of all that lie in the box
+-- S: (1, 0, 0) if a = 0, else (r − b, 2a, 0)
+pub data StartsAt (h : Conic) (r : ℕ) : Point → Type 0 where
+  where-a-is-zero : h .a ≡ pos 0 → StartsAt h r (record { x = pos 1; y = pos 0; z = pos 0 })
+  where-a-is-not : ¬ (h .a ≡ pos 0) → StartsAt h r (record { x = pos r -ℤ h .b; y = pos 2 *ℤ h .a; z = pos 0 })
+
+-- T: the first of the three trial lines with L(S, T) not 0
+pub data LeadsFirst (h : Conic) (s : Point) : Point → Type 0 where
+  the-first : ¬ (L h s firstLine ≡ pos 0) → LeadsFirst h s firstLine
+  the-second : L h s firstLine ≡ pos 0 → ¬ (L h s secondLine ≡ pos 0) → LeadsFirst h s secondLine
+  the-third : L h s firstLine ≡ pos 0 → L h s secondLine ≡ pos 0 → ¬ (L h s thirdLine ≡ pos 0) → LeadsFirst h s thirdLine
+
+-- 6. it is the second point of the line from S along T
+unfoldable pub SquareIsChosen : Type 0
+SquareIsChosen =
+    (h : Conic) (r : ℕ) → NonDegenerate h → negℤ (D h) ≡ pos (r * r) →
+    (s : Point) × (t : Point) × StartsAt h r s × LeadsFirst h s t × (solveOf h ≡ point (normal (drawn h s t)))
+
+-- 7. otherwise D and aΔ can be split
+unfoldable pub LevelExists : Type 0
+LevelExists =
+    (h : Conic) → NonDegenerate h → ¬ SquareDiscriminant h →
+    (d₁ : ℤ) × (e₁ : ℤ) × (s : ℕ) × (t : ℕ) × (p : ℤ) × (g : ℤ) × (q : ℤ) × LevelledBy h d₁ e₁ s t p g q
+
+-- 8. and a point is carried back from the levelled solution with the least W, then the least X, of all that lie in the box
 unfoldable pub PointIsChosen : Type 0
 PointIsChosen =
     (h : Conic) (at : Point) → NonDegenerate h → ¬ SquareDiscriminant h → solveOf h ≡ point at →
