@@ -146,11 +146,11 @@ fn put_book(list: &[u8], book: &mut [u8]) -> usize
     bytes::put_two(book, 0, count as u64);
     let mut offset = 2 + 3 * count;
     let mut entry = 2;
-    let mut at = 0;
-    while at < list.len() {
-        offset = put_conic(list, at, book, entry, offset);
+    let mut from = 0;
+    while from < list.len() {
+        offset = put_conic(list, from, book, entry, offset);
         entry += 3;
-        at += 6;
+        from += 6;
     }
     offset
 }

@@ -8,10 +8,10 @@ use Rattle.book_writer.proofs.put_book.Statement.{statement}
 use Rattle.book_writer.proofs.put_book.Tie as tie
 
 abbrev Inv-loop : tie.InvT-loop
-Inv-loop list book₀ count offset₀ entry₀ at₀ book offset entry at = Between list book₀ book offset entry at
+Inv-loop list book₀ count offset₀ entry₀ from₀ book offset entry from = Between list book₀ book offset entry from
 
 abbrev μ-loop : tie.MeasureT-loop
-μ-loop list book₀ count offset₀ entry₀ at₀ book offset entry at = length list - at
+μ-loop list book₀ count offset₀ entry₀ from₀ book offset entry from = length list - from
 
 put-two-requires : tie.Need-put-two-requires Inv-loop μ-loop
 put-two-requires c κs = omega (arith, length-list-book (c .before .before .before .args .list .now))
