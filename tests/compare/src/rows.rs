@@ -31,13 +31,15 @@ pub fn through_program(tally: &mut Tally, program: &str, name: &str, kind: Kind,
     let input = rows(kind, count, seed);
     let ours = run(program, &input);
     let theirs = second::whole_output(&input);
-    tally.same(&"the length of the output", Ok(ours.len()), theirs.len());
-    let ours = ours.split(|b| *b == b'\n');
-    let theirs = theirs.split(|b| *b == b'\n');
-    let texts = input.split(|b| *b == b'\n');
-    for ((text, ours), theirs) in texts.zip(ours).zip(theirs) {
-        tally.same(&String::from_utf8_lossy(text), Ok(ours), theirs);
+    let our_rows = ours.split_inclusive(|b| *b == b'\n');
+    let their_rows = theirs.split_inclusive(|b| *b == b'\n');
+    let texts = input.split_inclusive(|b| *b == b'\n');
+    for ((text, our_row), their_row) in texts.zip(our_rows).zip(their_rows) {
+        tally.same(&format_args!("{}", text.escape_ascii()), Ok(our_row), their_row);
     }
+    // The shorter output ended the loop: rows that one side lacks at the end show in the lengths.
+    let source = format!("{count} rows, {name}, seed {seed}, the length of the output");
+    tally.same(&source, Ok(ours.len()), theirs.len());
     tally.report(&format!("rows of the program, {name}, seed {seed}"));
 }
 
@@ -50,7 +52,7 @@ pub fn whole(tally: &mut Tally, program: &str, seed: u64) {
         if prng.below(2) == 0 {
             input.pop();
         }
-        tally.same(&seed, Ok(run(program, &input)), second::whole_output(&input));
+        tally.same(&format_args!("{}", input.escape_ascii()), Ok(run(program, &input)), second::whole_output(&input));
     }
     tally.report(&format!("whole inputs of the program, seed {seed}"));
 }
