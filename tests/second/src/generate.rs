@@ -7,7 +7,7 @@ use crate::prng::Prng;
 /// The kinds of rows.
 #[derive(Clone, Copy, Debug, PartialEq, Eq)]
 pub enum Kind {
-    /// All conics with coefficients -2 to 2, in order.
+    /// Coefficients -2 to 2.
     Small,
     /// In range, a mixture of sizes, zeros frequent.
     Random,
@@ -29,20 +29,6 @@ pub enum Kind {
     Mixed,
 }
 
-/// The kinds by name.
-pub const KINDS: [(&str, Kind); 10] = [
-    ("small", Kind::Small),
-    ("random", Kind::Random),
-    ("circle", Kind::Circle),
-    ("parabola", Kind::Parabola),
-    ("hyperbola", Kind::Hyperbola),
-    ("diagonal", Kind::Diagonal),
-    ("degenerate", Kind::Degenerate),
-    ("outside", Kind::Outside),
-    ("malformed", Kind::Malformed),
-    ("mixed", Kind::Mixed),
-];
-
 /// The kinds that Mixed draws from.
 const MIXTURE: [Kind; 10] = [
     Kind::Random,
@@ -57,22 +43,8 @@ const MIXTURE: [Kind; 10] = [
     Kind::Malformed,
 ];
 
-/// The kind of a name.
-pub fn kind_of(name: &str) -> Option<Kind> {
-    KINDS
-        .iter()
-        .find(|(known, _)| *known == name)
-        .map(|(_, kind)| *kind)
-}
-
-/// `count` rows of a kind, each with its line feed; of Small at most 15,625.
+/// `count` rows of a kind, each with its line feed.
 pub fn rows(kind: Kind, count: usize, seed: u64) -> Vec<u8> {
-    if kind == Kind::Small {
-        let every = (0..15_625).take(count);
-        return every
-            .flat_map(|place| [spelled(small_conic(place)), vec![b'\n']].concat())
-            .collect();
-    }
     let mut prng = Prng::new(seed);
     let mut text = Vec::new();
     for _ in 0..count {

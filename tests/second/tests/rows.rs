@@ -1,6 +1,6 @@
 //! Text rows: the paper's whole output, faults, buffers and the cut at line feeds.
 
-use second::generate::{kind_of, rows};
+use second::generate::{rows, Kind};
 use second::{row_into_buffer, row_text, whole_output};
 
 #[test]
@@ -94,8 +94,11 @@ fn buffers() {
 
 #[test]
 fn generated_rows_give_one_row_each() {
-    for (name, count) in [("malformed", 20_000), ("outside", 2_000), ("mixed", 5_000)] {
-        let kind = kind_of(name).expect("a kind");
+    for (kind, count) in [
+        (Kind::Malformed, 20_000),
+        (Kind::Outside, 2_000),
+        (Kind::Mixed, 5_000),
+    ] {
         let input = rows(kind, count, 3);
         assert_eq!(input, rows(kind, count, 3));
         assert_ne!(input, rows(kind, count, 4));
@@ -104,7 +107,7 @@ fn generated_rows_give_one_row_each() {
         let lines: Vec<&[u8]> = output.split_inclusive(|byte| *byte == b'\n').collect();
         assert_eq!(lines.len(), count);
         assert!(lines.iter().all(|line| line.len() <= 34));
-        if name == "outside" {
+        if kind == Kind::Outside {
             assert!(lines.iter().all(|line| *line == b"R 1\n"));
         }
     }
