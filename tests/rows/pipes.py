@@ -27,6 +27,11 @@ def started(output):
     return subprocess.Popen([PROGRAM], stdin=subprocess.PIPE, stdout=output, bufsize=0)
 
 
+def expect_end(child):
+    status = child.wait(20)
+    expect(f"exit status {status}, not 0", status == 0)
+
+
 def unread(pipe):
     return struct.unpack("i", fcntl.ioctl(pipe, termios.FIONREAD, b"\0\0\0\0"))[0]
 
@@ -43,7 +48,7 @@ def in_pieces(sizes):
             while unread(child.stdin) > 0:
                 time.sleep(0.0002)
         child.stdin.close()
-        child.wait(20)
+        expect_end(child)
         output.seek(0)
         return output.read()
 
@@ -69,7 +74,7 @@ def asked_one_by_one():
     child.stdin.write(ROWS.split(b"\n")[-1])
     child.stdin.close()
     answers += child.stdout.read()
-    child.wait(20)
+    expect_end(child)
     return answers
 
 
@@ -87,13 +92,13 @@ def many_rows(count):
             peak = next(int(line.split()[1]) for line in status if line.startswith("VmHWM"))
         answered = output.seek(0, 2) == wanted
         child.stdin.close()
-        child.wait(20)
+        expect_end(child)
         output.seek(0)
         return peak, answered and output.read() == b"N sign\n" * count
 
 
 def ends_without_a_reader():
-    """Nobody reads the output, and a signal does not end the program."""
+    """Nobody reads the output, and a signal does not end the program: it ends by itself."""
     rows = subprocess.Popen(["yes", "1 0 1 0 0 3"], stdout=subprocess.PIPE)
     child = subprocess.Popen(
         [PROGRAM], stdin=rows.stdout, stdout=subprocess.PIPE, restore_signals=False,
@@ -101,8 +106,7 @@ def ends_without_a_reader():
     rows.stdout.close()
     child.stdout.close()
     try:
-        child.wait(20)
-        return True
+        return child.wait(20) == 0
     except subprocess.TimeoutExpired:
         child.kill()
         return False
