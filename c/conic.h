@@ -12,9 +12,9 @@
  *
  * Refusals: 1 a coefficient is out of range; 2 the conic is degenerate; 5 the base is out of limit or not in normal form with z > 0;
  * 6 the base is not on the conic; 7 the direction is (0, 0) or out of limit; 8 the target is out of limit or not in normal form; 9 the
- * target is not on the conic; 11 the buffer for a row is shorter than 40 bytes; 12 a book's layout is broken; 13 a body in a book is
- * not right; 14 the book needs more bytes than the buffer has; 15 the list is not a multiple of 6 bytes, or is above 12,000; 16 the book
- * has no conic of that number.
+ * target is not on the conic; 10 (only as the content of a row) the text is not a row of six numbers; 11 the buffer for a row is shorter
+ * than 40 bytes; 12 a book's layout is broken; 13 a body in a book is not right; 14 the book needs more bytes than the buffer has; 15 the
+ * list is not a multiple of 6 bytes, or is above 12,000; 16 the book has no conic of that number.
  */
 #ifndef CONIC_H
 #define CONIC_H
