@@ -1,4 +1,4 @@
-// The paper's limits and its refusals, in one place.
+// The paper's limits on numbers, and its refusals.
 ghost use mathlib.Core.Path.{_≡_};
 ghost use Rattle.point.specs.Paper.{number};
 

@@ -34,7 +34,7 @@ pub record PrimedAt (h : Conic) (m : Point) : Type 0 where
   pub conic : InLimit h
   pub primed-within : PrimedWithin m
 
--- a conic that has a levelled equation
+-- a conic in limit whose D is not 0
 pub record CanLevel (h : Conic) : Type 0 where
   pub conic : InLimit h
   pub D-not-zero : D h ≢ pos 0

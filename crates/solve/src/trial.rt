@@ -14,8 +14,8 @@ pub fn has_square_discriminant(h: Conic) -> bool
     requires { ⌜ InLimit h ⌝ }
     ensures { λ r. ⌜ r ≡ isSquareNumber (negℤ (D h)) ⌝ }
 {
-    let discriminant = h.discriminant();
-    discriminant <= 0 && roots::is_square(whole::magnitude(discriminant))
+    let minus = -h.discriminant();
+    minus >= 0 && roots::is_square(whole::magnitude(minus))
 }
 
 // S, where -D is the square of the root: one root.
