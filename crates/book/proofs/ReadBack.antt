@@ -11,11 +11,12 @@ use lib.Seq.{getD-drop}
 use Rattle.point.specs.Paper.{point, none-by-prime, coefficientLimit, pointLimit}
 use Rattle.point.specs.Sizes.{PointWithin}
 use Rattle.point.specs.declared.Point.{Point}
+use Rattle.point.proofs.Vector.{same-point}
 use Rattle.conic.specs.Sizes.{InLimit}
 use Rattle.conic.specs.declared.conic.Conic.{Conic}
 use Rattle.book.specs.Bytes.{bytes, numberAt, unsigned, signed}
 use Rattle.book.specs.Layout.{coefficients, added, conicAt, pointAt}
-use Rattle.book.proofs.Fields.{same-conic, same-point}
+use Rattle.book.proofs.Fields.{same-conic}
 use Rattle.book.proofs.SignedBytes.{signed-unsigned, unsigned-below}
 
 -- ---- at a place, and at the front

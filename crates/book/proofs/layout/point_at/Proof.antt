@@ -1,7 +1,7 @@
 -- `book::layout::point_at` meets its contract. Assumes nothing.
 use borrow.Author.Needs.{needs}
+use Rattle.point.proofs.Vector.{same-point}
 use Rattle.book.specs.Layout.{pointAt}
-use Rattle.book.proofs.Fields.{same-point}
 use Rattle.book.proofs.layout.point_at.Statement.{statement}
 use Rattle.book.proofs.layout.point_at.Tie as tie
 
