@@ -1,15 +1,15 @@
 -- 12 exactly for a broken layout, 13 exactly if the layout holds and some body isn't right, 16 exactly if the book is right and has no
 -- conic of that number. The answer has four ways, of which only one ends in each number. Assumes nothing.
-use mathlib.Core.Bool.{Bool, true, false}
+use mathlib.Core.Bool.{true, false}
 use mathlib.Core.List.{List}
-use mathlib.Core.Logic.{⊎-elim}
 use mathlib.Core.Path.{_≡_, refl, sym, ap, _∙_}
 use Prim.Native.Nat.{ℕ, zero, suc, _+_, _*_, _≤_, _<_}
 use native.Mathlib.Omega.{arith}
 use lib.Dec.{leb, ltb}
 use lib.ListN.{length}
 use borrow.Author.Tests.{leb-true, leb-false, ltb-true, ltb-false}
-use Rattle.number.proofs.Least.{true-or-false, false-of-not-true, not-true-of-false}
+use Rattle.number.proofs.Least.{false-of-not-true, not-true-of-false}
+use Rattle.point.proofs.Cases.{by-test}
 use Rattle.book.specs.Layout.{countLimit, countOf, kindAt, offsetAt}
 use Rattle.book.specs.Reader.{ReaderAnswer, with-point, with-none-by-sign, with-none-by-prime, degenerate, no-entry, bodiesEnd, everyBelow, entryHolds, layoutHolds, bodyHolds, contentOf, readerAnswer}
 use Rattle.book.specs.Theorems.{BrokenLayout, no-count, too-short, too-many, wrong-kind, wrong-offset, wrong-end, BodyHolds, TwelveExactly, ThirteenExactly, SixteenExactly}
@@ -17,9 +17,6 @@ use Rattle.book.proofs.Contents.{LayoutRight, entry-right, layout-right
 use Rattle.book.proofs.Every.{every-fails, every-gives, every-holds, every-not}
 use Rattle.book.proofs.Reading.{is-twelve, is-thirteen, is-sixteen, is-content}
 use Rattle.book.proofs.RightBodies.{right-of-test, test-of-right}
-
-by-test : {A : Type 0} (t : Bool) → (t ≡ true → A) → (t ≡ false → A) → A
-by-test t holds fails = ⊎-elim holds fails (true-or-false t)
 
 -- ---- the ways of the answer
 
