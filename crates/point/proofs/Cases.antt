@@ -1,7 +1,7 @@
 -- Choices by a test: by the two ways that it goes, what holds in both cases holds of the choice, and the choice is the case that the
 -- test tells. Assumes nothing.
-use mathlib.Core.Path.{_≡_, refl, sym, ap, _∙_}
-use mathlib.Core.Bool.{Bool, true, false, cond, not, Bool·not-not}
+use mathlib.Core.Path.{_≡_, refl, sym, ap}
+use mathlib.Core.Bool.{Bool, true, false, cond}
 
 pub by-test : {P : Type 0} (t : Bool) → (t ≡ true → P) → (t ≡ false → P) → P
 by-test true f g = f refl
@@ -16,9 +16,3 @@ when x y e = ap (λ b. cond b x y) (sym e)
 
 pub unless : {A : Type 0} {b : Bool} (x y : A) → b ≡ false → y ≡ cond b x y
 unless x y e = ap (λ b. cond b x y) (sym e)
-
-pub was-false : (b : Bool) → not b ≡ true → b ≡ false
-was-false b e = sym (Bool·not-not b) ∙ ap not e
-
-pub was-true : (b : Bool) → not b ≡ false → b ≡ true
-was-true b e = sym (Bool·not-not b) ∙ ap not e

@@ -3,9 +3,9 @@
 use mathlib.Core.Path.{_≡_, sym, ap, _∙_}
 use mathlib.Core.Bool.{true}
 use borrow.Author.Needs.{needs, sfits-of}
+use borrow.Author.Tests.{not-true, not-false}
 use Rattle.point.specs.Legal.{isTarget}
 use Rattle.point.specs.Paper.{isZero}
-use Rattle.point.proofs.Cases.{was-false, was-true}
 use Rattle.point.proofs.Limits.{target-within}
 use Rattle.point.proofs.Passed.{passed}
 use Rattle.conic.specs.Base.{LegalBase, legal, judged, judgedOf}
@@ -23,7 +23,7 @@ based : (c : tie.After-enum-told) → let a = c .before .before .before .args in
 based c = legal-base _ _ (legal-is c)
 
 aims : (c : tie.Else1) → isTarget (c .before .before .before .before .before .args .target) ≡ true
-aims c = sym (c .before .is-target .ensures) ∙ was-true _ (c .if1 .left)
+aims c = sym (c .before .is-target .ensures) ∙ not-false _ (c .if1 .left)
 
 on-tested : (c : tie.After-is-zero) → let a = c .before .before .before .before .before .before .before .args in c .is-zero .result ≡ isZero (G (a .h) (a .target))
 on-tested c = passed isZero (search sfits-of) (c .is-zero .ensures) ∙ ap isZero (c .before .at .ensures)
@@ -48,7 +48,7 @@ is-target-requires c κs = search needs
 returns-2 : tie.Need-returns-2
 returns-2 c =
     record {
-      as-defined = direction-no-target _ _ _ (legal-is (c .before .before)) (sym (c .before .is-target .ensures) ∙ was-false _ (c .if1 .taken));
+      as-defined = direction-no-target _ _ _ (legal-is (c .before .before)) (sym (c .before .is-target .ensures) ∙ not-true _ (c .if1 .taken));
     }
 
 at-requires : tie.Need-at-requires

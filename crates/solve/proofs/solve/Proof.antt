@@ -2,9 +2,9 @@
 use mathlib.Core.Path.{_≡_, sym, ap, _∙_}
 use mathlib.Core.Bool.{true, false}
 use borrow.Author.Needs.{needs, sfits-of}
+use borrow.Author.Tests.{not-true, not-false}
 use Rattle.number.proofs.Least.{T-of-true}
 use Rattle.point.specs.Paper.{isZero}
-use Rattle.point.proofs.Cases.{was-false, was-true}
 use Rattle.point.proofs.Passed.{passed}
 use Rattle.conic.specs.Form.{Δ}
 use Rattle.conic.specs.Base.{inRange}
@@ -14,7 +14,7 @@ use Rattle.solve.proofs.solve.Statement.{statement}
 use Rattle.solve.proofs.solve.Tie as tie
 
 ranged : (c : tie.Else1) → inRange (c .before .before .args .h) ≡ true
-ranged c = sym (c .before .in-range .ensures) ∙ was-true _ (c .if1 .left)
+ranged c = sym (c .before .in-range .ensures) ∙ not-false _ (c .if1 .left)
 
 tested : (c : tie.After-is-zero) → c .is-zero .result ≡ isZero (Δ (c .before .before .before .before .args .h))
 tested c = passed isZero (search sfits-of) (c .is-zero .ensures) ∙ ap isZero (c .before .determinant .ensures)
@@ -26,7 +26,7 @@ in-range-requires : tie.Need-in-range-requires
 in-range-requires c κs = search needs
 
 returns : tie.Need-returns
-returns c = record { as-defined = solve-out-of-range _ (sym (c .before .in-range .ensures) ∙ was-false _ (c .if1 .taken)) }
+returns c = record { as-defined = solve-out-of-range _ (sym (c .before .in-range .ensures) ∙ not-true _ (c .if1 .taken)) }
 
 determinant-requires : tie.Need-determinant-requires
 determinant-requires c κs = in-limit (c .before .before .args .h) (T-of-true (ranged c))

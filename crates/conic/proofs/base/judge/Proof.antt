@@ -2,10 +2,10 @@
 use mathlib.Core.Path.{_≡_, sym, ap, _∙_}
 use mathlib.Core.Bool.{true, false}
 use borrow.Author.Needs.{needs, sfits-of}
+use borrow.Author.Tests.{not-true, not-false}
 use Rattle.number.proofs.Least.{T-of-true}
 use Rattle.point.specs.Legal.{isBase}
 use Rattle.point.specs.Paper.{isZero}
-use Rattle.point.proofs.Cases.{was-false, was-true}
 use Rattle.point.proofs.Limits.{base-within}
 use Rattle.point.proofs.Passed.{passed}
 use Rattle.conic.specs.Form.{G, Δ}
@@ -18,7 +18,7 @@ use Rattle.conic.proofs.base.judge.Tie as tie
 -- ---- what the tests said
 
 ranged : (c : tie.Else1) → inRange (c .before .before .args .h) ≡ true
-ranged c = sym (c .before .in-range .ensures) ∙ was-true _ (c .if1 .left)
+ranged c = sym (c .before .in-range .ensures) ∙ not-false _ (c .if1 .left)
 
 degenerate-tested : (c : tie.After-is-zero) → c .is-zero .result ≡ isZero (Δ (c .before .before .before .before .args .h))
 degenerate-tested c = passed isZero (search sfits-of) (c .is-zero .ensures) ∙ ap isZero (c .before .determinant .ensures)
@@ -27,7 +27,7 @@ curved : (c : tie.Else2) → isZero (Δ (c .before .before .before .before .befo
 curved c = sym (degenerate-tested (c .before)) ∙ c .if2 .left
 
 based : (c : tie.Else3) → isBase (c .before .before .before .before .before .before .before .args .base) ≡ true
-based c = sym (c .before .is-base .ensures) ∙ was-true _ (c .if3 .left)
+based c = sym (c .before .is-base .ensures) ∙ not-false _ (c .if3 .left)
 
 on-tested :
     (c : tie.After-is-zero2) →
@@ -41,7 +41,7 @@ in-range-requires : tie.Need-in-range-requires
 in-range-requires c κs = search needs
 
 returns : tie.Need-returns
-returns c = judged-range _ _ (sym (c .before .in-range .ensures) ∙ was-false _ (c .if1 .taken))
+returns c = judged-range _ _ (sym (c .before .in-range .ensures) ∙ not-true _ (c .if1 .taken))
 
 determinant-requires : tie.Need-determinant-requires
 determinant-requires c κs = in-limit (c .before .before .args .h) (T-of-true (ranged c))
@@ -58,7 +58,7 @@ is-base-requires c κs = search needs
 returns-3 : tie.Need-returns-3
 returns-3 c =
     let curve = c .before .before in
-    judged-base _ _ (ranged (curve .before .before .before)) (curved curve) (sym (c .before .is-base .ensures) ∙ was-false _ (c .if3 .taken))
+    judged-base _ _ (ranged (curve .before .before .before)) (curved curve) (sym (c .before .is-base .ensures) ∙ not-true _ (c .if3 .taken))
 
 at-requires : tie.Need-at-requires
 at-requires c κs =

@@ -2,8 +2,8 @@
 use mathlib.Core.Path.{_≡_, sym, ap, _∙_}
 use mathlib.Core.Bool.{true}
 use borrow.Author.Needs.{needs, sfits-of}
+use borrow.Author.Tests.{not-true, not-false}
 use Rattle.point.specs.Paper.{isZero}
-use Rattle.point.proofs.Cases.{was-false, was-true}
 use Rattle.point.proofs.Passed.{passed}
 use Rattle.conic.specs.Form.{L}
 use Rattle.solve.specs.Solve.{firstLine, secondLine}
@@ -18,7 +18,7 @@ second-tested : (c : tie.After-is-zero2) → c .is-zero2 .result ≡ isZero (L (
 second-tested c = passed isZero (search sfits-of) (c .is-zero2 .ensures) ∙ ap isZero (c .before .derivative-along2 .ensures)
 
 first-zero : (c : tie.Else1) → isZero (L (c .before .before .before .args .h) (c .before .before .before .args .s) firstLine) ≡ true
-first-zero c = sym (first-tested (c .before)) ∙ was-true _ (c .if1 .left)
+first-zero c = sym (first-tested (c .before)) ∙ not-false _ (c .if1 .left)
 
 derivative-along-requires : tie.Need-derivative-along-requires
 derivative-along-requires c κs = search needs
@@ -27,7 +27,7 @@ is-zero-requires : tie.Need-is-zero-requires
 is-zero-requires c κs = search needs
 
 returns : tie.Need-returns
-returns c = first-line _ _ (sym (first-tested (c .before)) ∙ was-false _ (c .if1 .taken))
+returns c = first-line _ _ (sym (first-tested (c .before)) ∙ not-true _ (c .if1 .taken))
 
 derivative-along-requires-2 : tie.Need-derivative-along-requires-2
 derivative-along-requires-2 c κs = search needs
@@ -36,10 +36,10 @@ is-zero-requires-2 : tie.Need-is-zero-requires-2
 is-zero-requires-2 c κs = search needs
 
 returns-2 : tie.Need-returns-2
-returns-2 c = second-line _ _ (first-zero (c .before .before .before)) (sym (second-tested (c .before)) ∙ was-false _ (c .if2 .taken))
+returns-2 c = second-line _ _ (first-zero (c .before .before .before)) (sym (second-tested (c .before)) ∙ not-true _ (c .if2 .taken))
 
 returns-3 : tie.Need-returns-3
-returns-3 c = third-line _ _ (first-zero (c .before .before .before)) (sym (second-tested (c .before)) ∙ was-true _ (c .if2 .left))
+returns-3 c = third-line _ _ (first-zero (c .before .before .before)) (sym (second-tested (c .before)) ∙ not-false _ (c .if2 .left))
 
 pub trial-line-spec : {M : Type 1} → statement M
 trial-line-spec =
