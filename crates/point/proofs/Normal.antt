@@ -4,12 +4,12 @@
 use mathlib.Core.Path.{_≡_, refl, sym, ap, ap₂, _∙_, subst}
 use mathlib.Core.Logic.{_≢_, _↔_}
 use Prim.Native.Nat.{ℕ, zero, suc, _*_, _≤_, _∣_}
-use native.Mathlib.Nat.{suc-ne-zero, zero-lt-suc, mul-zero, mul-one, le-trans, le-of-eq, div-le-self, zero-div, eq-of-mul-eq-mul-left}
+use native.Mathlib.Nat.{suc-ne-zero, zero-lt-suc, mul-zero, mul-one, zero-div, eq-of-mul-eq-mul-left}
 use lib.IntN.{ℤ, pos, negsuc, negℤ, natAbs, _*ℤ_, *ℤ-comm, negℤ-negℤ, pos-ne-negsuc}
 use lib.Signed.{quotZ, _<ℤ_, <ℤ-irrefl}
 use Rattle.whole.proofs.Laws.{negℤ-*ℤ}
 use Rattle.whole.proofs.Order.{pos-<, ≢-of-<ℤ, ≤ℤ-of-<ℤ, pos-natAbs-of-≤ℤ}
-use Rattle.whole.proofs.Size.{natAbs-neg, natAbs-*, natAbs-quot, natAbs-positive}
+use Rattle.whole.proofs.Size.{natAbs-neg, natAbs-*, quotient-size, natAbs-positive}
 use Rattle.whole.proofs.Products.{*ℤ-cancel}
 use Rattle.whole.proofs.Quotient.{quot-exact}
 use Rattle.whole.proofs.Cancel.{product-not-zero}
@@ -188,9 +188,6 @@ quotient-of-zero k e = ap (λ m. quotZ m k) e ∙ zero-quotient k
 pub normal-at-infinity : (p : Point) → p .z ≡ pos 0 → normal p .z ≡ pos 0
 unfolding normal over
 normal-at-infinity p e = quotient-of-zero (signedFactor p) e
-
-quotient-size : (m k : ℤ) → natAbs (quotZ m k) ≤ natAbs m
-quotient-size m k = le-trans (le-of-eq (natAbs-quot m k)) (div-le-self (natAbs m) (natAbs k))
 
 pub normal-size-x : (p : Point) → natAbs (normal p .x) ≤ natAbs (p .x)
 unfolding normal over

@@ -4,7 +4,7 @@
 use mathlib.Core.Path.{_≡_, refl, sym, ap, ap₂, _∙_, subst}
 use mathlib.Core.Bool.{Bool, true, _&&_}
 use Prim.Native.Nat.{ℕ, suc, _+_, _*_, _^_, _≤_, _<_}
-use native.Mathlib.Nat.{le-trans, le-of-eq, add-le-add, mul-le-mul, lt-of-le-of-lt, le-refl, div-le-self, mod-le}
+use native.Mathlib.Nat.{le-trans, le-of-eq, add-le-add, mul-le-mul, lt-of-le-of-lt, le-refl, mod-le}
 use lib.Dec.{T, leb, ltb, leb→le, ltb→lt}
 use lib.IntN.{ℤ, pos, negsuc, negℤ, natAbs, _+ℤ_, _*ℤ_}
 use lib.Signed.{mag, quotZ, remZ, natAbs-le}
@@ -12,7 +12,7 @@ use lib.Ieee.Fits.{and-l, and-r}
 use mir.Syntax.{Width}
 use mir.Val.{Fits, SFits, bits, hbits, toZ, ofZ}
 use mir.Facts.{toZ-ofZ, fits-ofZ, fits-lit}
-use Rattle.whole.proofs.Size.{natAbs-neg, natAbs-+, natAbs-*, natAbs-quot, natAbs-rem, mag-≤-natAbs}
+use Rattle.whole.proofs.Size.{natAbs-neg, natAbs-+, natAbs-*, quotient-size, natAbs-rem, mag-≤-natAbs}
 
 -- of a whole number, of a natural number, and of the bits of a signed type
 pub record Sized (m : ℤ) : Type 0 where
@@ -138,7 +138,7 @@ abbrev pub product : {a b : ℤ} → Sized a → Sized b → Sized (a *ℤ b)
 product d e = operation _*ℤ_ d e (d .bound * e .bound) (le-trans (le-of-eq (natAbs-* (d .value) (e .value))) (mul-le-mul (d .small) (e .small)))
 
 abbrev pub quotient : {a b : ℤ} → Sized a → Sized b → Sized (quotZ a b)
-quotient d e = operation quotZ d e (d .bound) (le-trans (le-of-eq (natAbs-quot (d .value) (e .value))) (le-trans (div-le-self (natAbs (d .value)) (natAbs (e .value))) (d .small)))
+quotient d e = operation quotZ d e (d .bound) (le-trans (quotient-size (d .value) (e .value)) (d .small))
 
 abbrev pub remainder : {a b : ℤ} → Sized a → Sized b → Sized (remZ a b)
 remainder d e = operation remZ d e (d .bound) (le-trans (le-of-eq (natAbs-rem (d .value) (e .value))) (le-trans (mod-le (natAbs (d .value)) (natAbs (e .value))) (d .small)))

@@ -60,6 +60,9 @@ natAbs-quot (pos a) (negsuc b) = natAbs-neg (pos (a / suc b))
 natAbs-quot (negsuc a) (pos b) = natAbs-neg (pos (suc a / b))
 natAbs-quot (negsuc a) (negsuc b) = refl
 
+pub quotient-size : (a b : ℤ) → natAbs (quotZ a b) ≤ natAbs a
+quotient-size a b = Nat.le-trans (Nat.le-of-eq (natAbs-quot a b)) (Nat.div-le-self (natAbs a) (natAbs b))
+
 pub natAbs-rem : (a b : ℤ) → natAbs (remZ a b) ≡ natAbs a % natAbs b
 natAbs-rem (pos a) b = refl
 natAbs-rem (negsuc a) b = natAbs-neg (pos (suc a % natAbs b))

@@ -1,7 +1,7 @@
 -- `solve::level::Level::of` meets its contract: the parts of a number are at most the number in size, and D is not 0. Assumes nothing.
 use mathlib.Core.Path.{_≡_, refl, sym, ap, ap₂, _∙_}
 use Prim.Native.Nat.{ℕ, zero, suc, _*_, _≤_, zero-le}
-use native.Mathlib.Nat.{le-trans, le-of-eq, div-le-self, le-mul-of-pos-right, zero-lt-suc}
+use native.Mathlib.Nat.{le-trans, le-mul-of-pos-right, zero-lt-suc}
 use lib.Dec.{lit≤}
 use lib.IntN.{ℤ, pos, natAbs, _*ℤ_}
 use mir.Syntax.{w64}
@@ -9,7 +9,7 @@ use mir.Val.{toZ, ofZ}
 use mir.Facts.{toZ-ofZ}
 use borrow.Author.Needs.{needs, sfits-of}
 use Rattle.whole.proofs.Signed.{sizes, fits, reads}
-use Rattle.whole.proofs.Size.{natAbs-quot}
+use Rattle.whole.proofs.Size.{quotient-size}
 use Rattle.number.specs.Split.{splitOf}
 use Rattle.number.specs.Squarefree.{freePart, squarePart}
 use Rattle.number.specs.declared.splitting.Parts.{Parts}
@@ -27,7 +27,7 @@ use Rattle.solve.proofs.level.Level.of.Tie as tie
 
 free-at-most : (n : ℤ) → natAbs (freePart n) ≤ natAbs n
 unfolding freePart
-free-at-most n = le-trans (le-of-eq (natAbs-quot n (pos (squarePart n * squarePart n)))) (div-le-self (natAbs n) (squarePart n * squarePart n))
+free-at-most n = quotient-size n (pos (squarePart n * squarePart n))
 
 square-at-most : (n : ℤ) → squarePart n ≤ natAbs n
 square-at-most n = le-trans (at-most-square (squarePart n)) (square-part-squared-at-most n)
