@@ -7,7 +7,6 @@ use Prim.Native.Nat.{ℕ, _≤_, _<_}
 use native.Mathlib.Nat.{lt-of-not-le, not-le-of-lt}
 use native.Mathlib.Omega.{arith}
 use lib.IntN.{ℤ, pos, negℤ, natAbs, _*ℤ_}
-use Rattle.whole.proofs.Size.{natAbs-positive}
 use Rattle.number.specs.Divides.{_∣ℤ_, divides}
 use Rattle.number.specs.Prime.{Prime, isPrime}
 use Rattle.number.specs.Remainder.{remainderOf}
@@ -19,7 +18,7 @@ use Rattle.number.proofs.Least.{least-holds, fails-below-least, least-found, no
 use Rattle.number.proofs.Prime.{isPrime-iff}
 use Rattle.number.proofs.Square.{own-square}
 use Rattle.number.proofs.Residues.{is-square-modulo-iff, square-by-root}
-use Rattle.number.proofs.Squarefree.{squarefree-not-zero}
+use Rattle.number.proofs.Squarefree.{squarefree-positive}
 use Rattle.legendre.specs.Equation.{Levelled, ConditionAt}
 use Rattle.legendre.specs.Outcome.{holdsFor, failsAt, primeLimit, leastFailing}
 use Rattle.legendre.specs.Answer.{LeastFailing}
@@ -96,7 +95,7 @@ failing-divides {l} p g q fails =
 
 larger-divides-not : {l : ℕ} {n : ℤ} → Squarefree n → natAbs n < l → ¬ (pos l ∣ℤ n)
 larger-divides-not {l} {n} free larger h =
-    not-le-of-lt larger (divisor-size-bound (natAbs-positive (squarefree-not-zero free)) h)
+    not-le-of-lt larger (divisor-size-bound (squarefree-positive free) h)
 
 pub failing-below-limit : {l : ℕ} {p g q : ℤ} → Levelled p g q → ¬ ConditionAt l p g q → l < primeLimit p g q
 unfolding primeLimit

@@ -1,9 +1,10 @@
 -- Legendre's theorem. A solution makes the condition hold at each prime. The other way round, the signs are brought to p, g > 0 > q;
 -- roots modulo the primes of a squarefree number make one modulo the number, and three roots make a solution. Assumes nothing.
-use mathlib.Core.Path.{_≡_, refl, ap, subst, _∙_}
+use mathlib.Core.Path.{_≡_, refl, sym, ap, subst, _∙_}
 use mathlib.Core.List.{[], _∷_}
 use Prim.Native.Nat.{ℕ, _≤_}
 use lib.IntN.{ℤ, pos, negℤ, natAbs, _-ℤ_, _*ℤ_, *ℤ-comm}
+use Rattle.whole.proofs.Laws.{*ℤ-negℤ}
 use Rattle.whole.proofs.Size.{natAbs-neg, square-is}
 use Rattle.whole.proofs.Ring.{by-ring, reify}
 use Rattle.number.specs.Divides.{_∣ℤ_}
@@ -26,12 +27,9 @@ size-of-root s = natAbs (s .root)
 size-is-root : {m : ℕ} {n : ℤ} (k : ℤ) → n ≡ k → (s : SquareModulo m n) → pos m ∣ℤ (pos (size-of-root s) *ℤ pos (size-of-root s) -ℤ k)
 size-is-root {m} {n} k e s = subst (λ (d : ℤ). pos m ∣ℤ d) (ap (λ (x : ℤ). x -ℤ n) (square-is (s .root)) ∙ ap (λ (x : ℤ). pos (size-of-root s) *ℤ pos (size-of-root s) -ℤ x) e) (s .is-root)
 
--- signs move in and out of a product
+-- two signs in a product cancel
 minus-times-minus : (x y : ℤ) → negℤ (x *ℤ negℤ y) ≡ x *ℤ y
 minus-times-minus x y = by-ring (x ∷ y ∷ []) (search reify depth 64 fits 9999) tt
-
-minus-inside : (x y : ℤ) → negℤ (x *ℤ y) ≡ x *ℤ negℤ y
-minus-inside x y = by-ring (x ∷ y ∷ []) (search reify depth 64 fits 9999) tt
 
 -- what is to be proved of each triple
 Sufficient : ℤ → ℤ → ℤ → Type 0
@@ -52,7 +50,7 @@ sufficient a b c h-a h-b h-c h condition = solvable-by-roots a b c (size-of-root
   coprime-ca = coprime-same-sizes (natAbs-neg (pos c)) refl (h .coprime-qp);
   root-a = size-is-root (pos b *ℤ pos c) (minus-times-minus (pos b) (pos c)) root-a;
   root-b = size-is-root (pos c *ℤ pos a) (minus-times-minus (pos a) (pos c) ∙ *ℤ-comm (pos a) (pos c)) root-b;
-  root-c = size-is-root (pos a *ℤ negℤ (pos b)) (minus-inside (pos a) (pos b)) root-c;
+  root-c = size-is-root (pos a *ℤ negℤ (pos b)) (sym (*ℤ-negℤ (pos a) (pos b))) root-c;
 }
   where
     root-a : SquareModulo a (negℤ (pos b *ℤ negℤ (pos c)))

@@ -114,7 +114,7 @@ negated-solvable {p} {g} {q} s =
     }
 
 -- minus the product of the other two is as it was
-product-negated : (a b : ℤ) → negℤ a *ℤ negℤ b ≡ a *ℤ b
+pub product-negated : (a b : ℤ) → negℤ a *ℤ negℤ b ≡ a *ℤ b
 product-negated a b = by-ring (a ∷ b ∷ []) (search reify depth 64 fits 9999) tt
 
 pub in-box-negated : {p g q : ℤ} → SolvableInBox (negℤ p) (negℤ g) (negℤ q) → SolvableInBox p g q

@@ -2,19 +2,15 @@
 -- 0; and in the box X² is at most |gq| and W² at most |pg|, so that pX² and qW² are at most |pgq| in size. Assumes nothing.
 use mathlib.Core.Path.{_≡_, sym, ap, _∙_}
 use mathlib.Core.List.{[], _∷_}
-use Prim.Native.Nat.{ℕ, suc, _*_, _^_, _≤_, _<_}
+use Prim.Native.Nat.{ℕ, suc, _*_, _^_, _≤_}
 use native.Mathlib.Nat.{le-trans, le-of-eq, mul-comm, le-mul-of-pos-right, mul-le-mul-left, le-of-suc-le-suc}
 use native.Mathlib.Omega.{arith}
 use lib.IntN.{ℤ, pos, natAbs, _*ℤ_}
 use Rattle.whole.proofs.Ring.{by-ring, reify}
-use Rattle.whole.proofs.Size.{natAbs-*, natAbs-positive}
-use Rattle.number.specs.Squarefree.{Squarefree}
+use Rattle.whole.proofs.Size.{natAbs-*}
 use Rattle.number.proofs.Square.{order-of-squares}
-use Rattle.number.proofs.Squarefree.{squarefree-not-zero}
+use Rattle.number.proofs.Squarefree.{squarefree-positive}
 use Rattle.legendre.specs.Reach.{Reach, Part, Terms, Triable}
-
-squarefree-positive : {n : ℤ} → Squarefree n → 0 < natAbs n
-squarefree-positive free = natAbs-positive (squarefree-not-zero free)
 
 term-small : (a : ℤ) {n : ℕ} (m : ℕ) → n ≤ m → m * natAbs a ≤ 2 ^ 60 → natAbs (a *ℤ pos n) ≤ 2 ^ 60
 term-small a {n} m h small =

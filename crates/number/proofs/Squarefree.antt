@@ -6,7 +6,7 @@ use Prim.Native.Nat.{ℕ, _*_, _/_, _∣_, _<_}
 use native.Mathlib.Nat.{mul-assoc, mul-comm, mul-mul-mul-comm, mul-one, mul-pos, eq-zero-or-pos, dvd-zero, dvd-trans, dvd-mul-left, dvd-mul-right, dvd-of-mul-dvd-mul-left, mul-dvd-mul, mul-dvd-mul-right, eq-one-of-dvd-one}
 use native.Mathlib.Omega.{arith}
 use lib.IntN.{ℤ, pos, natAbs, _*ℤ_}
-use Rattle.whole.proofs.Size.{natAbs-*}
+use Rattle.whole.proofs.Size.{natAbs-*, natAbs-positive}
 use Rattle.number.specs.Divides.{_∣ℤ_}
 use Rattle.number.specs.Gcd.{gcdOf, Coprime}
 use Rattle.number.specs.Squarefree.{Squarefree}
@@ -18,6 +18,9 @@ pub squarefree-not-zero : {n : ℤ} → Squarefree n → n ≢ pos 0
 squarefree-not-zero free e =
     let two-is-one : _≡_ {A = ℕ} 2 1 = subst Squarefree e free .no-square 2 (dvd-zero 4) in
     omega arith
+
+pub squarefree-positive : {n : ℤ} → Squarefree n → 0 < natAbs n
+squarefree-positive free = natAbs-positive (squarefree-not-zero free)
 
 pub one-squarefree : Squarefree (pos 1)
 one-squarefree = record { no-square = λ d h. eq-one-of-dvd-one (dvd-trans d (dvd-mul-right d d) h) }

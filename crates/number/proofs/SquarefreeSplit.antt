@@ -17,7 +17,7 @@ use Rattle.whole.proofs.Quotient.{quot-exact}
 use Rattle.number.proofs.Least.{greatest-at-most, greatest-holds, greatest-is-greatest}
 use Rattle.number.proofs.Divides.{divides-iff}
 use Rattle.number.proofs.Square.{root-is, at-most-root, square-≤}
-use Rattle.number.proofs.Squarefree.{root-divides-root, squarefree-not-zero, squarefree-same-size}
+use Rattle.number.proofs.Squarefree.{root-divides-root, squarefree-positive, squarefree-same-size}
 
 pub record IsSplit (n d : ℤ) (s : ℕ) : Type 0 where
   pub product : n ≡ d *ℤ pos (s * s)
@@ -119,7 +119,7 @@ split-equals {n} {d} {s} p = split-unique (split-is n not-zero) p
     not-zero e =
         let size-zero : natAbs d * (s * s) ≡ 0 = sym (size-of-product d s (p .product)) ∙ ap natAbs e in
         let size-not-zero : 0 < natAbs d * (s * s) =
-        mul-pos (natAbs-positive (squarefree-not-zero (p .squarefree))) (mul-pos (p .root-positive) (p .root-positive)) in
+        mul-pos (squarefree-positive (p .squarefree)) (mul-pos (p .root-positive) (p .root-positive)) in
         omega arith
 
 pub square-part-equals : {m : ℕ} (f s : ℕ) → m ≡ f * (s * s) → 0 < s → Squarefree (pos f) → squarePart (pos m) ≡ s

@@ -14,13 +14,13 @@ use Rattle.whole.proofs.Order.{pos-<, ≢-of-<ℤ}
 use Rattle.whole.proofs.Products.{*ℤ-cancel, zero-of-square}
 use Rattle.whole.proofs.Quotient.{quot-exact, quot-is}
 use Rattle.whole.proofs.Ring.{by-ring, reify}
-use Rattle.whole.proofs.Size.{natAbs-*, natAbs-positive}
+use Rattle.whole.proofs.Size.{natAbs-*}
 use Rattle.number.specs.Divides.{_∣ℤ_}
 use Rattle.number.specs.Gcd.{gcdOf, Coprime}
 use Rattle.number.specs.Squarefree.{Squarefree, freePart, squarePart}
 use Rattle.number.proofs.Divides.{sizes-divide, divides-by-sizes}
 use Rattle.number.proofs.Gcd.{gcd-divides-left, gcd-divides-right, gcd-positive-left, quotients-are-coprime, coprime-of-common-divisors, coprime-symmetric}
-use Rattle.number.proofs.Squarefree.{squarefree-not-zero, squarefree-same-size, squarefree-divisor, one-squarefree, root-divides-root, squarefree-divides-root}
+use Rattle.number.proofs.Squarefree.{squarefree-positive, squarefree-same-size, squarefree-divisor, one-squarefree, root-divides-root, squarefree-divides-root}
 use Rattle.number.proofs.SquarefreeSplit.{split-is, split-equals}
 use Rattle.legendre.specs.Equation.{Levelled, Solution, Solvable, form}
 use Rattle.legendre.specs.declared.outcome.Triple.{Triple}
@@ -169,7 +169,7 @@ module _ {h : Conic} {d₁ e₁ : ℤ} {s t : ℕ} {p g q : ℤ} (v : LevelledBy
   divisor = gcdOf (natAbs d₁) (natAbs e₁)
 
   divisor-positive : 0 < divisor
-  divisor-positive = gcd-positive-left (natAbs d₁) (natAbs e₁) (natAbs-positive (squarefree-not-zero (v .squarefree-d₁)))
+  divisor-positive = gcd-positive-left (natAbs d₁) (natAbs e₁) (squarefree-positive (v .squarefree-d₁))
 
   pub g-positive : pos 0 <ℤ g
   g-positive = subst (λ (n : ℤ). pos 0 <ℤ n) (sym (v .g-is-gcd)) (pos-< divisor-positive)

@@ -1,13 +1,12 @@
 -- The levelled equation of a conic in range is within the reach of the machine's answer, |p|, |g| ≤ |D| and |q| ≤ |aΔ|, and the
 -- solution that the answer gives lies in the box. Assumes nothing.
 use mathlib.Core.Path.{_≡_, sym, ap, _∙_}
-use Prim.Native.Nat.{ℕ, _*_, _≤_, _<_}
+use Prim.Native.Nat.{ℕ, _*_, _≤_}
 use native.Mathlib.Nat.{le-trans, le-of-eq, lt-of-le-of-lt, mul-comm, mul-le-mul, le-mul-of-pos-right}
 use lib.Dec.{lit<, lit≤}
 use lib.IntN.{ℤ, pos, natAbs, _*ℤ_}
-use Rattle.whole.proofs.Size.{natAbs-*, natAbs-positive}
-use Rattle.number.specs.Squarefree.{Squarefree}
-use Rattle.number.proofs.Squarefree.{squarefree-not-zero}
+use Rattle.whole.proofs.Size.{natAbs-*}
+use Rattle.number.proofs.Squarefree.{squarefree-positive}
 use Rattle.legendre.specs.Answer
 use Rattle.legendre.specs.Equation.{BoxSolution}
 use Rattle.legendre.specs.Outcome.{outcomeOf}
@@ -44,18 +43,15 @@ in-reach {h} {s = s} {t = t} {p = p} {g = g} {q = q} v i =
     qg-small : natAbs q * natAbs g ≤ limit-aΔ
     qg-small = product-at-most q g (t * t) (aΔ-is v) (mul-le-mul (v .t-positive) (v .t-positive)) (aΔ-size h i)
 
-    positive : {n : ℤ} → Squarefree n → 0 < natAbs n
-    positive f = natAbs-positive (squarefree-not-zero f)
-
     p-small : natAbs p ≤ limit-D
-    p-small = le-trans (le-mul-of-pos-right (natAbs p) (positive (levelled v .squarefree-g))) pg-small
+    p-small = le-trans (le-mul-of-pos-right (natAbs p) (squarefree-positive (levelled v .squarefree-g))) pg-small
 
     g-small : natAbs g ≤ limit-D
     g-small =
-        le-trans (le-mul-of-pos-right (natAbs g) (positive (levelled v .squarefree-p))) (rw (mul-comm (natAbs g) (natAbs p)) pg-small)
+        le-trans (le-mul-of-pos-right (natAbs g) (squarefree-positive (levelled v .squarefree-p))) (rw (mul-comm (natAbs g) (natAbs p)) pg-small)
 
     q-small : natAbs q ≤ limit-aΔ
-    q-small = le-trans (le-mul-of-pos-right (natAbs q) (positive (levelled v .squarefree-g))) qg-small
+    q-small = le-trans (le-mul-of-pos-right (natAbs q) (squarefree-positive (levelled v .squarefree-g))) qg-small
 
 module _ {h : Conic} (able : Levellable h) where
   pub level-in-reach : InLimit h → Reach (levelOf h .p) (levelOf h .g) (levelOf h .q)

@@ -15,6 +15,7 @@ use Rattle.whole.proofs.Products.{zero-≤ℤ-*, zero-≤ℤ-square, zero-of-sq
 use Rattle.whole.proofs.Ring.{by-ring, reify}
 use Rattle.whole.proofs.Sums.{zero-≤ℤ-+, negℤ-<ℤ, left-zero-of-sum, right-zero-of-sum}
 use Rattle.legendre.specs.Equation.{OneSign}
+use Rattle.legendre.proofs.Patterns.{product-negated}
 use Rattle.point.specs.declared.Point.{Point}
 use Rattle.point.proofs.Vector.{Zero, unit-x, unit-y, unit-z, one-not-zero}
 use Rattle.conic.specs.Form.{G, Gx, D, Δ, k}
@@ -30,16 +31,13 @@ use Rattle.solve.proofs.Levelling.{B, levelled-form, form-from-primed, 
 positive-factor : (c a : ℤ) → pos 0 ≤ℤ c → pos 0 <ℤ (c *ℤ a) → pos 0 <ℤ a
 positive-factor c a c≥0 h = *ℤ-cancel-<ℤ {a = pos 0} {b = a} {c = c} c≥0 (subst (λ (n : ℤ). n <ℤ (c *ℤ a)) (sym (*ℤ-zero c)) h)
 
-product-of-negatives : (a b : ℤ) → negℤ a *ℤ negℤ b ≡ a *ℤ b
-product-of-negatives a b = by-ring (a ∷ b ∷ []) (search reify depth 64 fits 9999) tt
-
 negative-product : {a b : ℤ} → a <ℤ pos 0 → b <ℤ pos 0 → pos 0 <ℤ (a *ℤ b)
-negative-product {a} {b} h l = subst (λ (n : ℤ). pos 0 <ℤ n) (product-of-negatives a b) (zero-<ℤ-* (negℤ-<ℤ h) (negℤ-<ℤ l))
+negative-product {a} {b} h l = subst (λ (n : ℤ). pos 0 <ℤ n) (product-negated a b) (zero-<ℤ-* (negℤ-<ℤ h) (negℤ-<ℤ l))
 
 negative-factor : (a b : ℤ) → a <ℤ pos 0 → pos 0 <ℤ (a *ℤ b) → b <ℤ pos 0
 negative-factor a b h l =
     subst (λ (n : ℤ). n <ℤ pos 0) (negℤ-negℤ b)
-    (negℤ-<ℤ (positive-factor (negℤ a) (negℤ b) (≤ℤ-of-<ℤ (negℤ-<ℤ h)) (subst (λ (n : ℤ). pos 0 <ℤ n) (sym (product-of-negatives a b)) l)))
+    (negℤ-<ℤ (positive-factor (negℤ a) (negℤ b) (≤ℤ-of-<ℤ (negℤ-<ℤ h)) (subst (λ (n : ℤ). pos 0 <ℤ n) (sym (product-negated a b)) l)))
 
 -- ---- D and aΔ positive: one sign everywhere
 
