@@ -2,15 +2,14 @@
 use mathlib.Core.Path.{_≡_, ap, ap₂, _∙_}
 use mathlib.Core.Logic.{_≢_, _↔_}
 use mathlib.Core.Bool.{true, false, _&&_, and-eq-true-iff}
-use lib.IntN.{ℤ, pos, _-ℤ_, +ℤ-invr}
-use lib.Signed.{ltZ, ltZ-yes}
+use lib.IntN.{ℤ, _-ℤ_, +ℤ-invr}
 use Rattle.whole.proofs.Laws.{equal-of-difference}
-use Rattle.number.proofs.Least.{true-of-T, T-of-true, false-of-not-true}
-use Rattle.point.specs.Paper.{pointInLimit, isZero}
-use Rattle.point.specs.Legal.{isNormal, isBase}
+use Rattle.number.proofs.Least.{true-of-T, false-of-not-true}
+use Rattle.point.specs.Paper.{isZero}
+use Rattle.point.specs.Legal.{isBase}
 use Rattle.point.specs.declared.Point.{Point}
 use Rattle.point.proofs.Vector.{same-point}
-use Rattle.point.proofs.Tests.{isZero-iff, isNormal-iff}
+use Rattle.point.proofs.Tests.{isZero-iff, isBase-iff}
 use Rattle.conic.specs.Base.{LegalBase}
 use Rattle.conic.specs.declared.conic.Conic.{Conic}
 use Rattle.direction.specs.Direction.{isSame}
@@ -39,13 +38,10 @@ isSame-not f = false-of-not-true λ e. f (isSame-iff .0 e)
 
 -- a legal base is a base of the steps
 pub legal-is-based : {h : Conic} {p : Point} → LegalBase h p → Based h p
-unfolding isBase
 legal-is-based {h} {p} l =
-    let tests : isBase p ≡ true = true-of-T (isBase p) (l .legal) in
-    let (ab, c) = and-eq-true-iff (pointInLimit p && isNormal p) (ltZ (pos 0) (p .z)) .0 tests in
-    let (a, b) = and-eq-true-iff (pointInLimit p) (isNormal p) .0 ab in
+    let (within, normal, above) = isBase-iff .0 (true-of-T (isBase p) (l .legal)) in
     record {
       not-degenerate = l .not-degenerate;
-      on-conic = record { normal-form = isNormal-iff .0 b; on = l .on };
-      in-plane = ltZ-yes (T-of-true c);
+      on-conic = record { normal-form = normal; on = l .on };
+      in-plane = above;
     }

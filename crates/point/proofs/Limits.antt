@@ -1,15 +1,14 @@
 -- What the tests of the limits say, and what the machine's normal form is: within the largest number it is the normal form, which is
 -- no larger than the point. Assumes nothing.
+use mathlib.Core.Path.{_≡_, ap, _∙_}
 use mathlib.Core.Bool.{and-eq-true-iff, Bool, true, false, cond, _&&_}
 use Prim.Native.Nat.{ℕ, _≤_, zero-le}
 use native.Mathlib.Nat.{le-trans}
 use lib.IntN.{natAbs, pos, ℤ}
-use borrow.Author.Tests.{leb-true, le-leb}
-use mathlib.Core.Path.{_≡_, ap, _∙_}
-use lib.Signed.{ltZ}
 use mir.Syntax.{w64}
 use mir.Val.{SFits, toZ, ofZ}
 use mir.Facts.{toZ-ofZ}
+use borrow.Author.Tests.{leb-true, le-leb}
 use Rattle.point.specs.Normal.{normal, largest, normalWithin, atInfinity}
 use Rattle.point.specs.Paper.{pointLimit, within, pointInLimit, directionLimit, directionInLimit}
 use Rattle.point.specs.Sizes.{PointWithin, LineWithin}
@@ -18,6 +17,7 @@ use Rattle.point.specs.declared.Point.{Point}
 use Rattle.point.specs.declared.Direction.{Direction}
 use Rattle.point.proofs.Normal.{normal-size-x, normal-size-y, normal-size-z}
 use Rattle.point.proofs.Vector.{same-point}
+use Rattle.point.proofs.Tests.{isBase-iff}
 
 pub within-bound : (n : ℕ) (m : ℤ) → within n m ≡ true → natAbs m ≤ n
 unfolding within
@@ -69,10 +69,7 @@ pub normal-passed :
 normal-passed p f g h e = e ∙ ap normalWithin (same-point (toZ-ofZ f) (toZ-ofZ g) (toZ-ofZ h))
 
 pub base-within : (p : Point) → isBase p ≡ true → PointWithin pointLimit p
-unfolding isBase
-base-within p e =
-    let (tested, z) = and-eq-true-iff (pointInLimit p && isNormal p) (ltZ (pos 0) (p .z)) .0 e in
-    point-in-limit p (and-eq-true-iff (pointInLimit p) (isNormal p) .0 tested .0)
+base-within p e = point-in-limit p (isBase-iff .0 e .0)
 
 pub target-within : (q : Point) → isTarget q ≡ true → PointWithin pointLimit q
 unfolding isTarget

@@ -1,15 +1,15 @@
--- The tests of the definitions say what they are named for: a number is 0, a point is in normal form. Assumes nothing.
+-- The tests of the definitions say what they are named for: a number is 0, a point is in normal form, or is a base. Assumes nothing.
 use mathlib.Core.Path.{_≡_, ap}
 use mathlib.Core.Logic.{_≢_, _↔_}
-use mathlib.Core.Bool.{true, false, and-eq-true-iff}
-use borrow.Author.Tests.{eqb-true, eq-eqb}
+use mathlib.Core.Bool.{true, false, _&&_, and-eq-true-iff}
 use lib.IntN.{ℤ, pos, natAbs}
-use lib.Signed.{ltZ-yes}
+use lib.Signed.{_<ℤ_, ltZ, ltZ-yes}
+use borrow.Author.Tests.{eqb-true, eq-eqb}
 use Rattle.whole.proofs.Size.{natAbs-zero}
 use Rattle.number.proofs.Least.{true-of-T, T-of-true, false-of-not-true, not-true-of-false}
 use Rattle.point.specs.Normal.{commonFactor, NormalForm}
-use Rattle.point.specs.Paper.{isZero}
-use Rattle.point.specs.Legal.{isNormal}
+use Rattle.point.specs.Paper.{isZero, pointInLimit}
+use Rattle.point.specs.Legal.{isNormal, isBase}
 use Rattle.point.specs.declared.Point.{Point}
 
 pub isZero-iff : {n : ℤ} → (isZero n ≡ true) ↔ (n ≡ pos 0)
@@ -26,6 +26,18 @@ isNormal-iff {p} = (
       let (a, b) = and-eq-true-iff _ _ .0 e in
       record { no-common-factor = eqb-true (commonFactor p) 1 a; positive = ltZ-yes (T-of-true b) },
   λ n. and-eq-true-iff _ _ .1 (eq-eqb (commonFactor p) 1 (n .no-common-factor), true-of-T _ (n .positive .lt)),
+)
+
+pub isBase-iff : {p : Point} → (isBase p ≡ true) ↔ ((pointInLimit p ≡ true) × NormalForm p × (pos 0 <ℤ p .z))
+unfolding isBase
+isBase-iff {p} = (
+  λ e.
+      let (ab, c) = and-eq-true-iff (pointInLimit p && isNormal p) (ltZ (pos 0) (p .z)) .0 e in
+      let (a, b) = and-eq-true-iff (pointInLimit p) (isNormal p) .0 ab in
+      (a, isNormal-iff .0 b, ltZ-yes (T-of-true c)),
+  λ (a, b, c).
+      and-eq-true-iff (pointInLimit p && isNormal p) (ltZ (pos 0) (p .z)) .1
+      (and-eq-true-iff (pointInLimit p) (isNormal p) .1 (a, isNormal-iff .1 b), true-of-T (ltZ (pos 0) (p .z)) (c .lt)),
 )
 
 pub not-zero-of-false : {n : ℤ} → isZero n ≡ false → n ≢ pos 0
