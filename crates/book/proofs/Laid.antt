@@ -7,6 +7,7 @@ use native.Mathlib.Omega.{arith}
 use lib.ListN.{length, getD, take, drop}
 use lib.Seq.{sets, sets-eq, paste}
 use Rattle.point.specs.Paper.{Verdict}
+use Rattle.point.proofs.Stores.{sets-append, sets-front}
 use Rattle.conic.specs.declared.conic.Conic.{Conic}
 use Rattle.solve.specs.Solve.{solveOf}
 use Rattle.book.specs.Bytes.{bytes}
@@ -15,7 +16,7 @@ use Rattle.book.specs.Steps.{withConic}
 use Rattle.book.specs.Writer.{entries, bodies, bookOf}
 use Rattle.book.proofs.Lengths.{length-body, length-entries}
 use Rattle.book.proofs.Listed.{coefficients-copied}
-use Rattle.book.proofs.Stores.{sets-append, sets-comm, sets-front}
+use Rattle.book.proofs.Stores.{sets-comm}
 
 -- a copy of six bytes, and what an answer adds
 pub body-stored :

@@ -6,8 +6,8 @@ use native.Mathlib.Nat.{div-div-eq-div-mul, add-assoc}
 use native.Mathlib.Omega.{arith}
 use lib.ListN.{length, getD}
 use lib.Seq.{sets}
+use Rattle.point.proofs.Stores.{sets-append}
 use Rattle.book.specs.Bytes.{bytes, numberAt}
-use Rattle.book.proofs.Stores.{sets-append}
 
 pub number-two : (book : List ℕ) (at : ℕ) → numberAt 2 book at ≡ getD book at 0 + 256 * getD book (at + 1) 0
 unfolding numberAt

@@ -1,19 +1,14 @@
--- Runs of stores into a list: two runs one after the other are one run, and runs at places that do not meet can change places. Each is
--- by induction on a run, from single stores. Assumes nothing.
+-- Runs of stores into a list: runs at places that do not meet can change places, by induction on a run from single stores; and three
+-- runs of four are one run. Assumes nothing.
 use mathlib.Core.List.{List, [], _∷_, _++_}
 use mathlib.Core.Path.{_≡_, refl, sym, ap, ap₂, _∙_}
 use Prim.Native.Nat.{ℕ, suc, _+_, _≤_, _<_}
-use native.Mathlib.Nat.{zero-add}
 use native.Mathlib.Omega.{arith}
-use lib.ListN.{length, length-append, set, drop}
-use lib.Seq.{set-comm, sets, sets-eq}
+use lib.ListN.{length, length-append, set}
+use lib.Seq.{set-comm, sets}
+use Rattle.point.proofs.Stores.{sets-append}
 
 module _ {A : Type 0} where
-  pub sets-append : (l : List A) (i : ℕ) (vs ws : List A) → sets l i (vs ++ ws) ≡ sets (sets l i vs) (i + length vs) ws
-  sets-append l i [] ws = ap (λ (k : ℕ). sets l k ws) (omega arith)
-  sets-append l i (v ∷ vs) ws =
-      sets-append (set l i v) (suc i) vs ws ∙ ap (λ (k : ℕ). sets (sets (set l i v) (suc i) vs) k ws) (omega arith)
-
   -- a store before a run
   set-sets : (l : List A) (i : ℕ) (v : A) (j : ℕ) (ws : List A) → i < j → set (sets l j ws) i v ≡ sets (set l i v) j ws
   set-sets l i v j [] h = refl
@@ -28,10 +23,6 @@ module _ {A : Type 0} where
   sets-comm l i (v ∷ vs) j ws h =
       ap (λ (m : List A). sets m (suc i) vs) (set-sets l i v j ws (omega arith))
       ∙ sets-comm (set l i v) (suc i) vs j ws (omega arith)
-
-  -- a run from the front
-  pub sets-front : (l vs : List A) → length vs ≤ length l → sets l 0 vs ≡ vs ++ drop (length vs) l
-  sets-front l vs h = sets-eq vs l 0 (omega arith) ∙ ap (λ (k : ℕ). vs ++ drop k l) (zero-add (length vs))
 
   -- three runs of four
   pub sets-three :

@@ -2,6 +2,7 @@ pub mod Vector
 pub mod Factor
 pub mod Normal
 pub mod Cases
+pub mod Stores
 pub mod Tests
 pub mod Passed
 pub mod Limits

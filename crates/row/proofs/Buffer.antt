@@ -1,20 +1,15 @@
--- Two writes in a row are one write of both texts, and a write at the start leaves the text with the rest of the buffer after it:
--- each store goes one place further. Assumes nothing.
+-- Two writes in a row are one write of both texts, and there is room for both where there is room for one text of both. A text is
+-- written byte by byte. Assumes nothing.
 use mathlib.Core.Path.{_≡_, refl, sym, ap, _∙_, subst}
 use mathlib.Core.List.{List, [], _∷_, _++_}
-use Prim.Native.Nat.{ℕ, suc, _+_, _≤_, _<_}
-use native.Mathlib.Nat.{add-zero, zero-add, add-suc, suc-add, add-assoc, le-of-lt}
+use Prim.Native.Nat.{ℕ, _+_, _≤_, _<_}
+use native.Mathlib.Nat.{add-assoc, le-of-lt}
 use native.Mathlib.Numerals.{add-one}
 use native.Mathlib.Omega.{arith}
-use lib.ListN.{length, set, take, drop, getD, length-append}
-use lib.Seq.{sets, sets-eq, length-sets, length-take-le, take-suc}
+use lib.ListN.{length, set, take, getD, length-append}
+use lib.Seq.{sets, length-sets, length-take-le, take-suc}
+use Rattle.point.proofs.Stores.{sets-append}
 use Rattle.row.specs.Buffer.{Wrote}
-
-pub sets-sets : (xs ys l : List ℕ) (i : ℕ) → sets (sets l i xs) (i + length xs) ys ≡ sets l i (xs ++ ys)
-sets-sets [] ys l i = ap (λ (k : ℕ). sets l k ys) (add-zero i)
-sets-sets (x ∷ xs) ys l i =
-    ap (λ (k : ℕ). sets (sets (set l i x) (suc i) xs) k ys) (add-suc i (length xs) ∙ sym (suc-add i (length xs)))
-    ∙ sets-sets xs ys (set l i x) (suc i)
 
 pub wrote-both : {xs ys before middle after : List ℕ} {at next end : ℕ} → Wrote xs before at next middle →
     Wrote ys middle next end after → Wrote (xs ++ ys) before at end after
@@ -29,7 +24,7 @@ wrote-both {xs} {ys} {before} {at = at} {next} first second =
           second .buffer
           ∙ ap (λ (l : List ℕ). sets l next ys) (first .buffer)
           ∙ ap (λ (k : ℕ). sets (sets before at xs) k ys) (first .place)
-          ∙ sets-sets xs ys before at;
+          ∙ sym (sets-append before at xs ys);
     }
 
 pub wrote-as :
@@ -42,12 +37,6 @@ wrote-nothing l = record { place = refl; buffer = refl }
 
 pub wrote-length : {xs before after : List ℕ} {at next : ℕ} → Wrote xs before at next after → length after ≡ length before
 wrote-length {xs} {before} {at = at} w = ap length (w .buffer) ∙ length-sets before at xs
-
--- written from the start
-pub from-start : (xs l : List ℕ) → length xs ≤ length l → sets l 0 xs ≡ xs ++ drop (length xs) l
-from-start xs l h =
-    sets-eq xs l 0 (subst (λ (n : ℕ). n ≤ length l) (sym (zero-add (length xs))) h)
-    ∙ ap (λ (n : ℕ). xs ++ drop n l) (zero-add (length xs))
 
 -- ---- room for two texts in a row
 
@@ -66,5 +55,5 @@ pub one-more :
     set (sets l at (take i bytes)) (at + i) (getD bytes i 0) ≡ sets l at (take (i + 1) bytes)
 one-more l bytes at i h =
     ap (λ (k : ℕ). set (sets l at (take i bytes)) (at + k) (getD bytes i 0)) (sym (length-take-le i bytes (le-of-lt h)))
-    ∙ sets-sets (take i bytes) (getD bytes i 0 ∷ []) l at
+    ∙ sym (sets-append l at (take i bytes) (getD bytes i 0 ∷ []))
     ∙ ap (sets l at) (sym (ap (λ (k : ℕ). take k bytes) (add-one i) ∙ take-suc bytes i 0 h))

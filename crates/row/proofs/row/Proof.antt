@@ -8,11 +8,11 @@ use lib.ListN.{length, drop}
 use lib.Seq.{sets}
 use borrow.Author.Needs.{needs}
 use borrow.Author.Tests.{lt-ltb, le-ltb}
+use Rattle.point.proofs.Stores.{sets-front}
 use Rattle.solve.specs.Answer.{solved}
 use Rattle.row.specs.Writing.{rowText}
 use Rattle.row.specs.Row.{rowOf, tooShort, row-length}
 use Rattle.row.specs.Theorems.{RowsFit}
-use Rattle.row.proofs.Buffer.{from-start}
 use Rattle.row.proofs.Sizes.{rowsFit}
 use Rattle.row.proofs.row.Statement.{statement}
 use Rattle.row.proofs.row.Tie as tie
@@ -51,7 +51,7 @@ returns-2 c =
     ap row-length (w .place ∙ zero-add _ ∙ ap length is)
     in
     let buffer : c .before .before .written .last .0 ≡ rowOf text ++ drop (length (rowOf text)) before =
-    w .buffer ∙ ap (sets before 0) is ∙ from-start (rowOf text) before (has-room (c .before .before .before .before .before))
+    w .buffer ∙ ap (sets before 0) is ∙ sets-front before (rowOf text) (has-room (c .before .before .before .before .before))
     in
     record { answer = simp long answer; buffer = simp long buffer }
 
