@@ -5,7 +5,7 @@ use mathlib.Core.Bool.{Bool, true, false, cond}
 use Prim.Native.Nat.{ℕ}
 use Rattle.number.proofs.Least.{T-of-true, not-true-of-false, true-of-T}
 use Rattle.point.specs.Legal.{isBase}
-use Rattle.point.specs.Paper.{point, isZero}
+use Rattle.point.specs.Paper.{isZero}
 use Rattle.point.specs.declared.Point.{Point}
 use Rattle.point.proofs.Cases.{cond-cases, when, unless}
 use Rattle.point.proofs.Tests.{isZero-iff}
@@ -82,7 +82,7 @@ pub settle : {A : Type 0} (refuse : ℕ → A) (next : A) {x : A} {j : Judgement
     x ≡ fromBase refuse h p next
 settle refuse next h p e f = f ∙ ap (settled refuse next) e ∙ by-judgement refuse next h p
 
--- ---- what the tests say
+-- ---- room for the polynomials
 
 pub at-base : (h : Conic) (p : Point) → LegalBase h p → ConicAt h p
 at-base h p l = record { conic = in-limit h (l .in-range); point = base-within p (true-of-T (isBase p) (l .legal)) }

@@ -19,7 +19,7 @@ use Rattle.conic.proofs.Bounds.{formSizes}
 use Rattle.conic.proofs.Legal.{at-base}
 use Rattle.direction.specs.Direction.{isSame, tangent, chord}
 
--- ---- what the tests say
+-- ---- room for the polynomials
 
 pub along-direction : (h : Conic) (p : Point) (t : Direction) → LegalBase h p → isDirection t ≡ true → ConicAlong h p (atInfinity t)
 unfolding isDirection

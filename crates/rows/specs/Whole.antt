@@ -1,4 +1,5 @@
--- However an input is cut into pieces, the bytes produced are those of the whole input's rows, one after another. Assumes nothing.
+-- However an input is cut into pieces, the bytes produced are those of the whole input's rows, one after another (`PiecesGiveWhole`),
+-- and with room for a row some of each piece is taken (`FeedingGoesOn`). Assumes nothing.
 use mathlib.Core.List.{List, [], _++_}
 use mathlib.Core.Path.{_≡_}
 use Prim.Native.Nat.{ℕ, _≤_, _<_}
