@@ -1,10 +1,10 @@
 -- What the entries ask of a conic with its base: in range, not degenerate, and the base legal and on it, or the first of the refusals
 -- 1, 2, 5, 6. Assumes nothing.
+use mathlib.Core.Path.{_≡_}
 use mathlib.Core.Bool.{Bool, _&&_, cond}
 use Prim.Native.Nat.{ℕ}
 use lib.Dec.{T}
 use lib.IntN.{pos}
-use mathlib.Core.Path.{_≡_}
 use Rattle.point.specs.Paper.{isZero, number, coefficientLimit, within}
 use Rattle.point.specs.Legal.{isBase}
 use Rattle.point.specs.declared.Point.{Point}

@@ -8,9 +8,9 @@ use native.Mathlib.Omega.{arith}
 use lib.Dec.{ltb}
 use lib.ListN.{length, length-append}
 use borrow.Author.Tests.{ltb-true, ltb-false, lt-ltb, le-ltb}
+use Rattle.point.proofs.Cases.{by-test}
 use Rattle.row_reader.specs.Reading.{minus, digitZero, valueFrom}
 use Rattle.row.specs.Writing.{digits, decimal}
-use Rattle.point.proofs.Cases.{by-test}
 
 -- ---- the two equations
 

@@ -10,9 +10,9 @@ use lib.Dec.{leb, eqb}
 use lib.IntN.{ℤ, pos, negℤ}
 use lib.ListN.{length}
 use borrow.Author.Tests.{leb-true, eqb-true}
+use Rattle.point.proofs.Cases.{by-test}
 use Rattle.row_reader.specs.Reading.{space, minus, allDigits, valueFrom, inFront, partsAt, readDigits, signedBy, readNumber, andThen, readNumbers, six, readRow}
 use Rattle.row_reader.specs.Theorems.{LongTextIsNoRow}
-use Rattle.point.proofs.Cases.{by-test}
 use Rattle.row_reader.proofs.Parts.{split}
 
 none-is-not-some : {A B : Type 0} {a : A} → _≡_ {A = Option A} none (some a) → B

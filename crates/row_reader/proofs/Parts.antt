@@ -12,13 +12,13 @@ use lib.Dec.{eqb, leb}
 use lib.IntN.{ℤ, pos}
 use lib.ListN.{length}
 use borrow.Author.Tests.{eqb-true, eqb-false, leb-true, eq-eqb, ne-eqb}
+use Rattle.point.proofs.Cases.{by-test}
 use Rattle.conic.specs.declared.conic.Conic.{Conic}
 use Rattle.row_reader.specs.Reading.{space, minus, digitZero, isDigit, inFront, partsAt, signedBy, readNumber, andThen, readNumbers, six, readRow}
 use Rattle.row_reader.specs.Steps.{Legal, LegalReader, fresh, current, pushed, start, afterSpace, afterMinus, afterDigit, stepOf, readerAfter, endOf, readerEnd, steps}
 use Rattle.row_reader.specs.declared.Place.{Place}
 use Rattle.row_reader.specs.declared.Reader.{Reader}
 use Rattle.row_reader.specs.declared.Reader.the-variants as Reader
-use Rattle.point.proofs.Cases.{by-test}
 use Rattle.row_reader.proofs.RestOfNumber.{signOf, moreDigits, numberFrom, only-digits, no-number, ended, not-begun, number-begins, not-a-digit, seven-digits, one-digit}
 use Rattle.row_reader.proofs.Steps.{legal-after}
 

@@ -11,10 +11,10 @@ use lib.Dec.{eqb, leb}
 use lib.IntN.{ℤ, pos, negℤ}
 use lib.ListN.{length}
 use borrow.Author.Tests.{eqb-true, eqb-false, le-leb, lt-leb}
+use Rattle.point.proofs.Cases.{by-test}
 use Rattle.row_reader.specs.Reading.{minus, digitZero, isDigit, allDigits, valueFrom, readDigits, signedBy, readNumber}
 use Rattle.row_reader.specs.Steps.{Legal, current}
 use Rattle.row_reader.specs.declared.Place.{Place}
-use Rattle.point.proofs.Cases.{by-test}
 
 abbrev pub signOf : Bool → ℕ → ℤ
 signOf true n = negℤ (pos n)

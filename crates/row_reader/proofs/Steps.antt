@@ -8,13 +8,13 @@ use native.Mathlib.Numerals.{add-one}
 use native.Mathlib.Omega.{arith}
 use lib.Dec.{T, eqb, leb, leb→le, lit<}
 use borrow.Author.Tests.{leb-true, leb-false}
+use Rattle.point.proofs.Cases.{cond-cases}
 use Rattle.conic.specs.declared.conic.Conic.{Conic}
 use Rattle.row_reader.specs.Reading.{space, minus, digitZero, digitNine, isDigit}
 use Rattle.row_reader.specs.Steps.{Legal, LegalReader, fresh, current, pushed, afterSpace, afterMinus, afterDigit, stepOf, readerAfter}
 use Rattle.row_reader.specs.declared.Place.{Place}
 use Rattle.row_reader.specs.declared.Reader.{Reader}
 use Rattle.row_reader.specs.declared.Reader.the-variants as Reader
-use Rattle.point.proofs.Cases.{cond-cases}
 
 pub record Digit (b : ℕ) : Type 0 where
   pub low : digitZero ≤ b

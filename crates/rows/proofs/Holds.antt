@@ -7,14 +7,14 @@ use Prim.Native.Nat.{ℕ, _+_, _≤_, _<_}
 use native.Mathlib.Decide.{decLe}
 use native.Mathlib.Numerals.{add-one}
 use native.Mathlib.Omega.{arith}
-use borrow.Author.Tests.{ltb-true, ltb-false}
 use lib.Dec.{ltb}
 use lib.ListN.{length, take, set, length-append, length-take, length-set}
 use lib.Seq.{take-all, take-append-le, take-suc-set}
-use Rattle.row.specs.Row.{rowOf, verdictOn}
+use borrow.Author.Tests.{ltb-true, ltb-false}
 use Rattle.row_reader.specs.Theorems.{LongTextIsNoRow}
-use Rattle.row.specs.Writing.{rowText}
 use Rattle.row_reader.proofs.LongTexts.{longTextIsNoRow}
+use Rattle.row.specs.Row.{rowOf, verdictOn}
+use Rattle.row.specs.Writing.{rowText}
 use Rattle.rows.specs.Cutter.{holding, keep, emptied, heldText}
 use Rattle.rows.specs.Input.{answers, lastRow}
 use Rattle.rows.specs.declared.Cutter.{Cutter}
