@@ -54,7 +54,7 @@ fn failing(size: u64, number: i64) -> Least
     }
 }
 
-// Two products and what `failing` costs at the size of a.
+// One product and one negation, and what `failing` costs at the size of a.
 fn failing_of(a: i64, b: i64, c: i64) -> Least
     requires { ⌜ Part a b c ⌝ }
     ensures { λ r. ⌜ r ≡ failingOf a b c ⌝ }

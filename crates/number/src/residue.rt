@@ -99,7 +99,7 @@ fn candidate(prime: u64, residue: u64) -> u64
     }
 }
 
-// The least root by trying every number up to half the prime, each square from the one before: at most prime / 2 steps.
+// The least root by trying every number up to half the prime, each square from the one before: at most (prime + 1) / 2 steps.
 fn scan(prime: u64, residue: u64) -> Root
     requires { ⌜ ProperResidue prime residue ⌝ }
     ensures { λ r. ⌜ r ≡ leastRoot prime (pos residue) ⌝ }

@@ -116,14 +116,14 @@ impl Point {
         (self.common_factor() == 1) & (self.leading() > 0)
     }
 
-    // Seven comparisons and two greatest common divisors.
+    // Eleven comparisons and two greatest common divisors.
     pub fn is_base(self) -> bool
         ensures { λ r. ⌜ r ≡ isBase self ⌝ }
     {
         self.is_target() & (self.z > 0)
     }
 
-    // Six comparisons and two greatest common divisors.
+    // Ten comparisons and two greatest common divisors.
     pub fn is_target(self) -> bool
         ensures { λ r. ⌜ r ≡ isTarget self ⌝ }
     {
