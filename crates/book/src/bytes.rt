@@ -33,7 +33,7 @@ pub fn four_at(book: &[u8], at: usize) -> u64
 }
 
 // A number below a range, the upper half of which stands for the negative ones.
-pub fn signed_below(range: u64, n: u64) -> i64
+fn signed_below(range: u64, n: u64) -> i64
     requires { ⌜ (n < range) × (range ≤ 4_294_967_296) ⌝ }
     ensures { λ r. ⌜ r ≡ signedBelow range n ⌝ }
 {

@@ -11,7 +11,7 @@ ghost use Rattle.book.specs.Layout.{bodyLength, conicAt, pointAt};
 pub const COUNT_LIMIT: usize = 2_000;
 
 // The lengths of the bodies of kinds 1 to 4; no body has kind 0.
-pub const BODY_LENGTHS: [usize; 5] = [0, 18, 6, 10, 6];
+const BODY_LENGTHS: [usize; 5] = [0, 18, 6, 10, 6];
 
 // The most bytes that a conic takes: its entry and the longest body.
 pub const MOST_FOR_A_CONIC: usize = 21;

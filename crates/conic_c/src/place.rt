@@ -35,14 +35,14 @@ pub fn put_direction(t: Direction, place: &mut [i64; 2])
 }
 
 // Six stores.
-pub fn put_conic(h: Conic, place: &mut [i64; 6])
+fn put_conic(h: Conic, place: &mut [i64; 6])
     ensures { λ r. ⌜ now (place .exit) ≡ coefficients h ⌝ }
 {
     *place = [h.a, h.b, h.c, h.d, h.e, h.f];
 }
 
 // The code of a none; at most one store.
-pub fn put_reason(reason: Reason, prime: &mut u64) -> i64
+fn put_reason(reason: Reason, prime: &mut u64) -> i64
     ensures { λ r. ⌜ HandedReason reason (now (prime .entry)) r (now (prime .exit)) ⌝ }
 {
     match reason {

@@ -7,12 +7,12 @@ use point::paper::Refusal;
 use solve::Answer;
 use solve::Reason;
 
-pub fn print_unsigned(n: u64) {
+fn print_unsigned(n: u64) {
     io::write_all(STDOUT_FILENO, b" ");
     io::print_decimal(STDOUT_FILENO, n);
 }
 
-pub fn print(n: i64) {
+fn print(n: i64) {
     io::write_all(STDOUT_FILENO, b" ");
     if n < 0 {
         io::write_all(STDOUT_FILENO, b"-");
@@ -45,7 +45,7 @@ pub fn print_refusal(refusal: Refusal) {
     print_unsigned(refusal.number());
 }
 
-pub fn print_reason(reason: Reason) {
+fn print_reason(reason: Reason) {
     match reason {
         Reason::Sign => {
             io::write_all(STDOUT_FILENO, b": N sign");

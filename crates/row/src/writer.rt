@@ -39,7 +39,7 @@ pub fn decimal(out: &mut [u8], at: usize, n: u64) -> usize
 }
 
 // Any number, the least one too.
-pub fn signed(out: &mut [u8], at: usize, n: i64) -> usize
+fn signed(out: &mut [u8], at: usize, n: i64) -> usize
     requires { ⌜ at + length (signedDecimal n) ≤ length (now out) ⌝ }
     ensures { λ r. ⌜ Wrote (signedDecimal n) (now (out .entry)) at r (now (out .exit)) ⌝ }
 {
