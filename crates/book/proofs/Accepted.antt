@@ -13,12 +13,12 @@ use Rattle.conic.specs.declared.conic.Conic.{Conic}
 use Rattle.solve.specs.Demand2.{NonDegenerate, HasPoint, PointExactly, RightPoint, OneSignEverywhere, SignExactly}
 use Rattle.solve.specs.Solve.{solveOf}
 use Rattle.solve.proofs.Demand2.{isPoint, pointExactly, signExactly}
+use Rattle.solve.proofs.Answers.{isRefusal, answered}
 use Rattle.book.specs.Layout.{conicAt, pointAt}
 use Rattle.book.specs.Reader.{ReaderAnswer, with-point, with-none-by-sign, with-none-by-prime, degenerate, no-entry, contentOf, readerAnswer}
 use Rattle.book.specs.Theorems.{RightBody, right-point, right-sign, right-prime, right-degenerate, TrueOf, AcceptedIsTrue}
 use Rattle.book.proofs.LegalPoints.{legal-is-right}
 use Rattle.book.proofs.Refusals.{Way, twelve, thirteen, sixteen, content, way, bodies-right}
-use Rattle.book.proofs.Verdicts.{isRefusal, answered}
 
 -- a none is true of all rationals
 no-point : (h : Conic) → isPoint (solveOf h) ≡ false → NonDegenerate h → ¬ HasPoint h

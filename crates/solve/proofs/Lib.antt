@@ -3,6 +3,7 @@ pub mod Sizes
 pub mod Infinity
 pub mod Sign
 pub mod Demand2
+pub mod Answers
 pub mod Bench
 pub mod Carrying
 pub mod Entries

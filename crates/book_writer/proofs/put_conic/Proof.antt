@@ -8,11 +8,11 @@ use borrow.Author.Needs.{needs}
 use Rattle.point.specs.Paper.{Verdict}
 use Rattle.solve.specs.Answer.{solved}
 use Rattle.solve.specs.Solve.{solveOf}
+use Rattle.solve.proofs.Answers.{point-fits}
 use Rattle.book.specs.Layout.{bodyLength, kindOf, conicAt}
 use Rattle.book.proofs.BodyKinds.{kind-at-most}
 use Rattle.book.proofs.Laid.{conic-stored}
 use Rattle.book.proofs.Lengths.{length-added}
-use Rattle.book.proofs.Verdicts.{point-fits}
 use Rattle.book_writer.proofs.put_conic.Statement.{statement}
 use Rattle.book_writer.proofs.put_conic.Tie as tie
 
