@@ -12,9 +12,7 @@ pub mod Lengths
 pub mod Laid
 pub mod Between
 pub mod Writing
-pub mod Verdicts
 pub mod RightBodies
-pub mod PrimeFits
 pub mod Refusals
 pub mod LegalPoints
 pub mod Accepted

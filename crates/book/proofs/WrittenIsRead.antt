@@ -4,8 +4,9 @@ use mathlib.Core.Bool.{true, and-eq-true-iff}
 use mathlib.Core.List.{List, [], _∷_, _++_, append-assoc}
 use mathlib.Core.Path.{_≡_, refl, ap, ap₂, _∙_}
 use Prim.Native.Nat.{ℕ, zero, suc, _≤_, _<_}
+use native.Mathlib.Nat.{lt-of-lt-of-le}
 use native.Mathlib.Omega.{arith}
-use lib.Dec.{T}
+use lib.Dec.{T, lit≤}
 use lib.IntN.{pos}
 use lib.ListN.{length, getD, drop}
 use Rattle.number.proofs.Least.{true-of-T, T-of-true}
@@ -15,6 +16,7 @@ use Rattle.conic.specs.declared.conic.Conic.{Conic}
 use Rattle.conic.proofs.Sizes.{in-limit}
 use Rattle.solve.specs.Demand2.{PointIsRight}
 use Rattle.solve.specs.Solve.{solveOf}
+use Rattle.solve.proofs.Answers.{isRefusal, answered, refused, point-fits, prime-below}
 use Rattle.solve.proofs.Demand2.{pointIsRight}
 use Rattle.book.specs.Layout.{countLimit, kindOf, coefficients, added, countOf, conicAt}
 use Rattle.book.specs.Reader.{with-point, with-none-by-sign, with-none-by-prime, degenerate, bodiesEnd, everyBelow, layoutHolds, bodyHolds, contentOf}
@@ -25,11 +27,9 @@ use Rattle.book.proofs.Contents.{layout-right}
 use Rattle.book.proofs.Every.{every-holds}
 use Rattle.book.proofs.LegalPoints.{right-is-legal}
 use Rattle.book.proofs.Parts.{startOf, body-at}
-use Rattle.book.proofs.PrimeFits.{prime-fits}
 use Rattle.book.proofs.ReadBack.{conic-read, point-read, prime-read}
 use Rattle.book.proofs.Reading.{is-sixteen, is-content}
 use Rattle.book.proofs.RightBodies.{test-of-right}
-use Rattle.book.proofs.Verdicts.{isRefusal, answered, refused, point-fits}
 
 -- ---- a body, by its conic's verdict
 
@@ -61,7 +61,7 @@ stored-body book at h none-by-sign rest range e body =
     record { right = right-sign (rw conic e); said = ap with-none-by-sign conic }
 stored-body book at h (none-by-prime l) rest range e body =
     let conic = own-conic book at h (none-by-prime l) rest range body in
-    let prime = prime-read book at h rest l (prime-fits h l e) body in
+    let prime = prime-read book at h rest l (lt-of-lt-of-le (prime-below h l e) (lit≤ tt)) body in
     record { right = right-prime (rw (conic, prime) e); said = ap₂ with-none-by-prime conic prime }
 stored-body book at h (refusal n) rest range e body =
     let conic = own-conic book at h (refusal n) rest range body in

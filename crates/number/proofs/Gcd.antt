@@ -66,9 +66,6 @@ gcd-remainder a b = gcd-equals (remainder-step (gcd-is b (a % b)))
 pub gcd-zero : (a : ℕ) → gcdOf a 0 ≡ a
 gcd-zero a = gcd-equals record { divides-left = dvd-refl a; divides-right = dvd-zero a; is-divided = λ d h k. h }
 
-pub zero-gcd : (b : ℕ) → gcdOf 0 b ≡ b
-zero-gcd b = gcd-symmetric 0 b ∙ gcd-zero b
-
 pub gcd-positive-left : (a b : ℕ) → 0 < a → 0 < gcdOf a b
 gcd-positive-left a b = pos-of-dvd-of-pos (gcd-divides-left a b)
 
