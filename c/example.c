@@ -21,7 +21,7 @@ static void show(int64_t a, int64_t b, int64_t c, int64_t d, int64_t e, int64_t 
         printf("none, by the prime %" PRIu64 "\n", prime);
         break;
     default:
-        printf("refusal %" PRId64 ": %s\n", -code, conic_refusal_words(code));
+        printf("refusal %" PRId64 "\n", -code);
     }
 }
 

@@ -1,13 +1,18 @@
 //! Rows a second of the proved program and library, of the second program, and of PARI/GP's qfsolve where gp is
 //! installed: medians of five in one run, as ratios to the second program's call.
 
-use conic::{Conic, ROW_BUFFER};
 use second::generate::spelled;
 use second::prng::Prng;
 use second::{Answer, Reason};
 use std::fs::File;
 use std::process::{Command, Stdio};
 use std::time::Instant;
+
+extern "C" {
+    #[rustfmt::skip]
+    fn conic_solve(a: i64, b: i64, c: i64, d: i64, e: i64, f: i64, point: *mut [i64; 3], prime: *mut u64) -> i64;
+    fn conic_row(text: *const u8, text_length: usize, out: *mut u8, out_length: usize) -> i64;
+}
 
 const ROWS: usize = 100_000;
 const GP_ROWS: usize = 5_000;
@@ -88,18 +93,21 @@ fn second_call(conics: &[[i64; 6]]) -> f64 {
 }
 
 fn library_call(conics: &[[i64; 6]]) -> f64 {
+    let (mut point, mut prime) = ([0; 3], 0);
     median(|| {
-        for six in conics {
-            let _ = std::hint::black_box(Conic::from(*six).solve());
+        for [a, b, c, d, e, f] in conics {
+            // Both places are valid, apart, and live through the call.
+            std::hint::black_box(unsafe { conic_solve(*a, *b, *c, *d, *e, *f, &mut point, &mut prime) });
         }
     })
 }
 
 fn library_rows(texts: &[Vec<u8>]) -> f64 {
-    let mut out = [0; ROW_BUFFER];
+    let mut out = [0u8; 40];
     median(|| {
         for text in texts {
-            let _ = std::hint::black_box(conic::row(text, &mut out));
+            // The text and the buffer are valid, apart, and live through the call.
+            std::hint::black_box(unsafe { conic_row(text.as_ptr(), text.len(), out.as_mut_ptr(), out.len()) });
         }
     })
 }

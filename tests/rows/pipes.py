@@ -1,7 +1,6 @@
-"""The program `conics` behind pipes: input in pieces of every size, answers before the input ends, memory that does not grow, an
-output pipe that nobody reads, and pipes that do not wait. Says what failed, and ends non-zero if anything did."""
+"""The program `conics` behind pipes: input in pieces of every size, answers before the input ends, memory that does not grow, and an
+output pipe that nobody reads. Says what failed, and ends non-zero if anything did."""
 import fcntl
-import os
 import random
 import signal
 import struct
@@ -15,8 +14,6 @@ PROGRAM = sys.argv[1]
 MEMORY_LIMIT = 8 * 1024  # KiB, of which the two buffers are 128
 ROWS = b"1 1 1 1 0 -1\n1 0 1 0 0 -3\n\n1 0 1 0 0 3\r\n" + b"7" * 100 + b"\n1 0 1 0 0 0\n41 0 0 0 0 0\n1 0 1"
 ANSWERS = b"P -4 5 3\nN prime 3\nR 10\nR 10\nR 10\nR 2\nR 1\nR 10\n"
-CUT_OFF = [(b"", b""), (b"1 0 1 0 0 -1", b""), (b"1 0 1 0 0 3\n", b"N sign\n"), (b"1 0 1 0 0 3\n1 0 1 0 0 -1", b"N sign\n")]
-NOT_NOW = b": Resource temporarily unavailable\n"
 failures = []
 
 
@@ -27,14 +24,12 @@ def expect(name, holds):
 
 
 def started(output):
-    return subprocess.Popen([PROGRAM], stdin=subprocess.PIPE, stdout=output, stderr=subprocess.PIPE, bufsize=0)
+    return subprocess.Popen([PROGRAM], stdin=subprocess.PIPE, stdout=output, bufsize=0)
 
 
 def expect_end(child):
     status = child.wait(20)
     expect(f"exit status {status}, not 0", status == 0)
-    told = child.stderr.read()
-    expect(f"{told} on standard error", told == b"")
 
 
 def unread(pipe):
@@ -103,42 +98,21 @@ def many_rows(count):
 
 
 def ends_without_a_reader():
-    """Nobody reads the output, and a signal does not end the program: it says why and ends by itself."""
+    """Nobody reads the output, and a signal does not end the program: it ends by itself."""
     rows = subprocess.Popen(["yes", "1 0 1 0 0 3"], stdout=subprocess.PIPE)
     child = subprocess.Popen(
-        [PROGRAM], stdin=rows.stdout, stdout=subprocess.PIPE, stderr=subprocess.PIPE, restore_signals=False,
+        [PROGRAM], stdin=rows.stdout, stdout=subprocess.PIPE, restore_signals=False,
         preexec_fn=lambda: signal.signal(signal.SIGPIPE, signal.SIG_IGN))
     rows.stdout.close()
     child.stdout.close()
     try:
-        return child.wait(20) == 0 and child.stderr.read() == b"conics: writing standard output: Broken pipe\n"
+        return child.wait(20) == 0
     except subprocess.TimeoutExpired:
         child.kill()
         return False
     finally:
         rows.kill()
         rows.wait()
-
-
-def input_that_does_not_wait(sent):
-    """What is answered and told after a read that finds nothing, with the pipe still open, so that more could have come."""
-    read_end, write_end = os.pipe()
-    os.set_blocking(read_end, False)
-    os.write(write_end, sent)
-    child = subprocess.run([PROGRAM], stdin=read_end, stdout=subprocess.PIPE, stderr=subprocess.PIPE, timeout=20)
-    os.close(read_end)
-    os.close(write_end)
-    return child.returncode, child.stdout, child.stderr
-
-
-def output_that_does_not_wait():
-    """What is written and told where the output pipe is full."""
-    read_end, write_end = os.pipe()
-    os.set_blocking(write_end, False)
-    child = subprocess.run([PROGRAM], input=b"\n" * 1_000_000, stdout=write_end, stderr=subprocess.PIPE, timeout=20)
-    os.close(write_end)
-    with open(read_end, "rb") as output:
-        return child.returncode, output.read(), child.stderr
 
 
 def hung(*_):
@@ -156,9 +130,4 @@ peak, answered = many_rows(1_000_000)
 expect("1,000,000 rows", answered)
 expect(f"memory: {peak} KiB", peak <= MEMORY_LIMIT)
 expect("an output pipe without a reader", ends_without_a_reader())
-for sent, answers in CUT_OFF:
-    expect(f"after {sent} a read that fails", input_that_does_not_wait(sent) == (0, answers, b"conics: reading standard input" + NOT_NOW))
-status, answers, told = output_that_does_not_wait()
-expect("an output pipe that is full", status == 0 and told == b"conics: writing standard output" + NOT_NOW)
-expect("the rows before an output pipe is full", answers and (b"R 10\n" * len(answers)).startswith(answers))
 sys.exit(1 if failures else 0)

@@ -1,61 +1,63 @@
--- How long a book and its parts are: three bytes an entry, and each body as the table says. By induction on the conics.
--- Assumes nothing.
+-- How long a book and its parts are: three bytes an entry, and each body as the table says. By induction on the conics. Assumes nothing.
 use mathlib.Core.List.{List, [], ◌∷◌, ◌++◌}
-use mathlib.Core.Path.{◌≡◌, refl}
+use mathlib.Core.Path.{◌≡◌, refl, ap, ◌∙◌}
 use Prim.Native.Nat.{ℕ, ◌+◌, ◌*◌, ◌/◌, ◌≤◌}
 use native.Mathlib.Omega.{arith}
 use lib.ListN.{length, length-append}
-use Rattle.paper.specs.Answers.{point, none_by_sign_lem, none_by_prime, refusal}
-use Rattle.point.specs.Verdict.{Verdict}
+use Rattle.point.specs.Paper.{Verdict, point, none_by_sign_lem, none_by_prime, refusal}
 use Rattle.conic.specs.declared.conic.Conic.{Conic}
 use Rattle.solve.specs.Solve.{solve_of}
-use Rattle.little_endian.specs.Bytes.{bytes}
-use Rattle.book.specs.Layout.{conic_bytes, entry_bytes, entry_place, body_length, kind_of, coefficients, added, kind_for, added_for, conic_at}
+use Rattle.book.specs.Bytes.{bytes}
+use Rattle.book.specs.Layout.{body_length, kind_of, coefficients, added, conic_at}
 use Rattle.book.specs.Writer.{entries, bodies, book_of, conics_of}
 use Rattle.book.proofs.BodyKinds.{length_at_most}
 use Rattle.book.proofs.Listed.{conics_after, after_all_lem, after_more, after_none, length_conics}
 
+pub length_body : (h : Conic) (v : Verdict) → length (coefficients h ++ added v) ≡ body_length (kind_of v)
+unfolding coefficients bytes
+length_body h (point p) = refl
+length_body h none_by_sign_lem = refl
+length_body h (none_by_prime l) = refl
+length_body h (refusal n) = refl
+
 -- what a verdict adds comes after the six coefficients
-pub length_added : (v : Verdict) → conic_bytes + length (added v) ≡ body_length (kind_of v)
+pub length_added : (v : Verdict) → 6 + length (added v) ≡ body_length (kind_of v)
 unfolding bytes
 length_added (point p) = refl
 length_added none_by_sign_lem = refl
 length_added (none_by_prime l) = refl
 length_added (refusal n) = refl
 
-pub length_body : (h : Conic) → length (coefficients h ++ added_for h) ≡ body_length (kind_for h)
-unfolding coefficients kind_for added_for
-length_body h = omega (arith, length_added (solve_of h))
-
 pub length_bodies :
-    (h : Conic) (hs : List Conic) → length (bodies (h ∷ hs)) ≡ body_length (kind_for h) + length (bodies hs)
+    (h : Conic) (hs : List Conic) → length (bodies (h ∷ hs)) ≡ body_length (kind_of (solve_of h)) + length (bodies hs)
 unfolding bodies
-length_bodies h hs = omega (arith, length-append (coefficients h ++ added_for h) (bodies hs), length_body h)
+length_bodies h hs =
+    length-append (coefficients h ++ added (solve_of h)) (bodies hs)
+    ∙ ap (λ (n : ℕ). n + length (bodies hs)) (length_body h (solve_of h))
 
-pub length_entries : (offset : ℕ) (hs : List Conic) → length (entries offset hs) ≡ entry_bytes * length hs
+pub length_entries : (offset : ℕ) (hs : List Conic) → length (entries offset hs) ≡ 3 * length hs
 unfolding entries bytes
 length_entries offset [] = refl
-length_entries offset (h ∷ hs) = omega (arith, length_entries (offset + body_length (kind_for h)) hs)
+length_entries offset (h ∷ hs) = omega (arith, length_entries (offset + body_length (kind_of (solve_of h))) hs)
 
-pub length_book : (hs : List Conic) → length (book_of hs) ≡ entry_place (length hs) + length (bodies hs)
+pub length_book : (hs : List Conic) → length (book_of hs) ≡ 2 + 3 * length hs + length (bodies hs)
 unfolding book_of bytes
 length_book hs =
-    let start = entry_place (length hs) in
-    omega (arith, length-append (entries start hs) (bodies hs), length_entries start hs)
+    omega (arith, length-append (entries (2 + 3 * length hs) hs) (bodies hs), length_entries (2 + 3 * length hs) hs)
 
 bodies_at_most : (hs : List Conic) → length (bodies hs) ≤ 18 * length hs
 unfolding bodies
 bodies_at_most [] = omega arith
-bodies_at_most (h ∷ hs) = omega (arith, length_bodies h hs, length_at_most (kind_for h), bodies_at_most hs)
+bodies_at_most (h ∷ hs) = omega (arith, length_bodies h hs, length_at_most (kind_of (solve_of h)), bodies_at_most hs)
 
 pub book_at_most : (hs : List Conic) → length (book_of hs) ≤ 2 + 21 * length hs
 book_at_most hs = omega (arith, length_book hs, bodies_at_most hs)
 
 -- the book of a list, and the bodies that are left of it from a place on
 module _ (list : List ℕ) where
-  pub length_list_book :
-      length (book_of (conics_of list)) ≡ entry_place (length list / 6) + length (bodies (conics_after list 0))
-  length_list_book = rw (← after_all_lem list) (omega (arith, length_book (conics_of list), length_conics list))
+  pub length_list_book : length (book_of (conics_of list)) ≡ 2 + 3 * (length list / 6) + length (bodies (conics_after list 0))
+  length_list_book =
+      omega (arith, length_book (conics_of list), length_conics list, ap (λ (hs : List Conic). length (bodies hs)) (after_all_lem list))
 
   pub list_book_at_most : length (book_of (conics_of list)) ≤ 2 + 21 * (length list / 6)
   list_book_at_most = omega (arith, book_at_most (conics_of list), length_conics list)
@@ -63,9 +65,10 @@ module _ (list : List ℕ) where
   pub length_left_more :
       (at : ℕ) → at + 6 ≤ length list →
       length (bodies (conics_after list at)) ≡
-      body_length (kind_for (conic_at list at)) + length (bodies (conics_after list (at + 6)))
-  length_left_more at h = rw (after_more list at h) (length_bodies (conic_at list at) (conics_after list (at + 6)))
+      body_length (kind_of (solve_of (conic_at list at))) + length (bodies (conics_after list (at + 6)))
+  length_left_more at h =
+      ap (λ (hs : List Conic). length (bodies hs)) (after_more list at h) ∙ length_bodies (conic_at list at) (conics_after list (at + 6))
 
   pub length_left_none : (at : ℕ) → length list ≤ at → length (bodies (conics_after list at)) ≡ 0
   unfolding bodies
-  length_left_none at h = rw (after_none list at h)
+  length_left_none at h = ap (λ (hs : List Conic). length (bodies hs)) (after_none list at h)

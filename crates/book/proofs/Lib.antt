@@ -1,8 +1,12 @@
+pub mod Stores
+pub mod LittleEndian
+pub mod SignedBytes
 pub mod Fields
 pub mod Judged
 pub mod BodyKinds
 pub mod Every
 pub mod Contents
+pub mod Reading
 pub mod Listed
 pub mod Lengths
 pub mod Laid
@@ -10,7 +14,7 @@ pub mod Between
 pub mod Writing
 pub mod RightBodies
 pub mod Refusals
-pub mod WriterRefusals
+pub mod LegalPoints
 pub mod Accepted
 pub mod Parts
 pub mod ReadBack

@@ -1,49 +1,48 @@
--- The promises of the writer and the reader determine their answers, and the writer's the buffer too: an answer can be
--- told from what it stands for in the paper. Assumes nothing.
+-- The promises of the writer and the reader determine their answers, and the writer's the buffer too: an answer can be told from what it
+-- stands for in the paper. Assumes nothing.
 use mathlib.Core.List.{List}
 use mathlib.Core.Path.{◌≡◌, refl, sym, ap, ◌∙◌}
 use Prim.Native.Nat.{ℕ}
-use Rattle.paper.specs.Answers.{Given, given, refused, point, none_by_sign_lem, none_by_prime, refusal}
-use Rattle.paper.specs.declared.Written.{Written}
-use Rattle.paper.proofs.Promise.{told_apart, numbered, numbered_number, same_written}
-use Rattle.point.specs.Verdict.{Verdict}
+use Rattle.point.proofs.Promise.{told_apart, numbered, numbered_number}
 use Rattle.solve.specs.declared.Reason.TheVariants as Reason
-use Rattle.book.specs.Reader.{StoredConic, stored, entry, ReaderPromise}
-use Rattle.book.specs.Writer.{WriterPromise}
+use Rattle.book.specs.Reader.{ReaderAnswer, with_point, with_none_by_sign, with_none_by_prime, degenerate, no_entry, entry, ReaderPromise}
+use Rattle.book.specs.Writer.{WriterAnswer, book_length, no_book, written, WriterPromise}
 use Rattle.book.specs.declared.Entry.{Entry}
 use Rattle.book.specs.declared.Entry.TheVariants as Entry
-use Rattle.book.specs.declared.Stored.{Stored}
 use Rattle.book.specs.declared.Stored.TheVariants as Stored
+use Rattle.book.specs.declared.Written.{Written}
+use Rattle.book.specs.declared.Written.TheVariants as Written
 
 -- ---- the writer
 
+abbrev to_written : WriterAnswer → Written
+to_written (book_length n) = Written.Length n
+to_written (no_book n) = Written.Refused (numbered n)
+
+written_back : (r : Written) → to_written (written r) ≡ r
+written_back (Written.Length n) = refl
+written_back (Written.Refused s) = ap Written.Refused (numbered_number s)
+
 pub write_determined :
-    {list before after after' : List ℕ} {r r' : Written} → WriterPromise list before r after →
-    WriterPromise list before r' after' →
+    {list before after after' : List ℕ} {r r' : Written} → WriterPromise list before r after → WriterPromise list before r' after' →
     (r ≡ r') × (after ≡ after')
 write_determined {r = r} {r' = r'} a b =
-    (same_written r r' (a.answer ∙ sym b.answer), a.buffer ∙ sym b.buffer)
+    (told_apart written to_written written_back r r' (a.answer ∙ sym b.answer), a.buffer ∙ sym b.buffer)
 
 -- ---- the reader
 
-abbrev to_stored : Verdict → Stored
-to_stored (point p) = Stored.Point p
-to_stored none_by_sign_lem = Stored.None Reason.Sign
-to_stored (none_by_prime l) = Stored.None (Reason.Prime l)
-to_stored (refusal n) = Stored.Degenerate
-
-stored_back : (s : Stored) → to_stored (stored s) ≡ s
-stored_back (Stored.Point p) = refl
-stored_back (Stored.None Reason.Sign) = refl
-stored_back (Stored.None (Reason.Prime l)) = refl
-stored_back Stored.Degenerate = refl
-
-abbrev to_entry : Given StoredConic → Entry
-to_entry (given s) = Entry.Conic s.conic (to_stored s.answer)
-to_entry (refused n) = Entry.Refused (numbered n)
+abbrev to_entry : ReaderAnswer → Entry
+to_entry (with_point h p) = Entry.Conic h (Stored.Point p)
+to_entry (with_none_by_sign h) = Entry.Conic h (Stored.None Reason.Sign)
+to_entry (with_none_by_prime h l) = Entry.Conic h (Stored.None (Reason.Prime l))
+to_entry (degenerate h) = Entry.Conic h Stored.Degenerate
+to_entry (no_entry n) = Entry.Refused (numbered n)
 
 entry_back : (r : Entry) → to_entry (entry r) ≡ r
-entry_back (Entry.Conic h s) = ap (Entry.Conic h) (stored_back s)
+entry_back (Entry.Conic h (Stored.Point p)) = refl
+entry_back (Entry.Conic h (Stored.None Reason.Sign)) = refl
+entry_back (Entry.Conic h (Stored.None (Reason.Prime l))) = refl
+entry_back (Entry.Conic h Stored.Degenerate) = refl
 entry_back (Entry.Refused s) = ap Entry.Refused (numbered_number s)
 
 pub read_determined : {book : List ℕ} {i : ℕ} {r r' : Entry} → ReaderPromise book i r → ReaderPromise book i r' → r ≡ r'

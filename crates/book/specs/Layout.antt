@@ -1,28 +1,13 @@
--- The layout of a book: two bytes for the count n; n entries of three bytes, kind and offset; then the bodies in order,
--- no gaps. A body starts with the six coefficients as signed bytes. Assumes nothing.
+-- The layout of a book: two bytes for the count n; n entries of three bytes, kind and offset; then the bodies in order, no gaps.
+-- A body starts with the six coefficients as signed bytes. Assumes nothing.
 use Rattle.std.specs.Prelude.{List, [], ◌∷◌, ◌++◌, ℕ, ◌+◌, ◌*◌, get_or}
-use Rattle.paper.specs.Answers.{point, none_by_sign_lem, none_by_prime, refusal}
-use Rattle.point.specs.Verdict.{Verdict}
+use Rattle.point.specs.Paper.{Verdict, point, none_by_sign_lem, none_by_prime, refusal}
 use Rattle.point.specs.declared.Point.{Point}
 use Rattle.conic.specs.declared.conic.Conic.{Conic}
-use Rattle.solve.specs.Solve.{solve_of}
-use Rattle.little_endian.specs.Bytes.{bytes, number_at, unsigned, signed}
+use Rattle.book.specs.Bytes.{bytes, number_at, unsigned, signed}
 
--- the count
-abbrev pub count_bytes : ℕ
-count_bytes = 2
-
--- an entry: the kind, and the offset of the body
-abbrev pub entry_bytes : ℕ
-entry_bytes = 3
-
--- the six coefficients
-abbrev pub conic_bytes : ℕ
-conic_bytes = 6
-
--- where entry i starts; the bodies start where the entry after the last would
-abbrev pub entry_place : ℕ → ℕ
-entry_place i = count_bytes + entry_bytes * i
+abbrev pub count_limit : ℕ
+count_limit = 2_000
 
 -- bodies of kinds 1 to 4 are 18, 6, 10 and 6 bytes long
 abbrev pub body_length : ℕ → ℕ
@@ -47,13 +32,6 @@ added none_by_sign_lem = []
 added (none_by_prime l) = bytes 4 l
 added (refusal n) = []
 
--- the kind that a conic is stored as, and what it adds: solve's answer's
-unfoldable pub kind_for : Conic → ℕ
-kind_for h = kind_of (solve_of h)
-
-unfoldable pub added_for : Conic → List ℕ
-added_for h = added (solve_of h)
-
 unfoldable pub conic_at : List ℕ → ℕ → Conic
 conic_at book at =
     record {
@@ -75,10 +53,10 @@ point_at book at =
 
 -- the contents, read from a book
 abbrev pub count_of : List ℕ → ℕ
-count_of book = number_at count_bytes book 0
+count_of book = number_at 2 book 0
 
 abbrev pub kind_at : List ℕ → ℕ → ℕ
-kind_at book i = get_or book (entry_place i) 0
+kind_at book i = get_or book (2 + 3 * i) 0
 
 abbrev pub offset_at : List ℕ → ℕ → ℕ
-offset_at book i = number_at 2 book (entry_place i + 1)
+offset_at book i = number_at 2 book (3 + 3 * i)

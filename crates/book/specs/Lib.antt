@@ -1,7 +1,7 @@
+pub mod Bytes
 pub mod Layout
 pub mod Writer
 pub mod Steps
 pub mod Reader
-pub mod Refusals
 pub mod Theorems
 pub mod Examples

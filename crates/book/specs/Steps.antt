@@ -1,34 +1,33 @@
 -- What the writer's and the reader's steps ask and leave. Assumes nothing.
 use Rattle.std.specs.Prelude.{List, ◌∷◌, ◌++◌, ◌≡◌, ℕ, ◌+◌, ◌*◌, ◌%◌, ◌≤◌, length, drop}
 use Rattle.std.proofs.lemmas.List.Edits.{sets}
-use Rattle.paper.specs.Limits.{base_limit, count_limit}
-use Rattle.paper.specs.Answers.{point}
-use Rattle.point.specs.Verdict.{Verdict}
+use Rattle.point.specs.Paper.{Verdict, point, point_limit}
 use Rattle.point.specs.Sizes.{PointWithin}
 use Rattle.point.specs.declared.Point.{Point}
 use Rattle.conic.specs.declared.conic.Conic.{Conic}
-use Rattle.little_endian.specs.Bytes.{bytes}
-use Rattle.book.specs.Layout.{conic_bytes, entry_bytes, entry_place, body_length, coefficients, added, kind_for, added_for, count_of}
+use Rattle.solve.specs.Solve.{solve_of}
+use Rattle.book.specs.Bytes.{bytes}
+use Rattle.book.specs.Layout.{count_limit, body_length, kind_of, coefficients, added, count_of}
 use Rattle.book.specs.Writer.{book_of}
 
 -- what a verdict adds fits from a place on
 pub record AddedFits (book : List ℕ) (at : ℕ) (v : Verdict) : Type 0 where
   pub room : at + length (added v) ≤ length book
-  pub point_fits : (p : Point) → v ≡ point p → PointWithin base_limit p
+  pub point_fits : (p : Point) → v ≡ point p → PointWithin point_limit p
 
 -- a conic's entry and body fit
 pub record ConicFits (book : List ℕ) (entry offset : ℕ) (h : Conic) : Type 0 where
-  pub entry_room : entry + entry_bytes ≤ length book
-  pub body_room : offset + body_length (kind_for h) ≤ length book
+  pub entry_room : entry + 3 ≤ length book
+  pub body_room : offset + body_length (kind_of (solve_of h)) ≤ length book
 
 -- a conic's entry and body, written
 unfoldable pub with_conic : List ℕ → ℕ → ℕ → Conic → List ℕ
 with_conic book entry offset h =
-    sets (sets book entry (kind_for h ∷ bytes 2 offset)) offset (coefficients h ++ added_for h)
+    sets (sets book entry (kind_of (solve_of h) ∷ bytes 2 offset)) offset (coefficients h ++ added (solve_of h))
 
 pub record ConicPut (before : List ℕ) (entry offset : ℕ) (h : Conic) (r : ℕ) (after : List ℕ) : Type 0 where
   pub book : after ≡ with_conic before entry offset h
-  pub next : r ≡ offset + body_length (kind_for h)
+  pub next : r ≡ offset + body_length (kind_of (solve_of h))
 
 -- the book of a list, written, and its length
 pub record BookPut (before : List ℕ) (hs : List Conic) (r : ℕ) (after : List ℕ) : Type 0 where
@@ -37,11 +36,11 @@ pub record BookPut (before : List ℕ) (hs : List Conic) (r : ℕ) (after : List
 
 -- six bytes a conic, at most 2,000 conics
 pub record RightList (list : List ℕ) : Type 0 where
-  pub sixes : length list % conic_bytes ≡ 0
-  pub at_most : length list ≤ conic_bytes * count_limit
+  pub sixes : length list % 6 ≡ 0
+  pub at_most : length list ≤ 6 * count_limit
 
 -- a book of at most 2,000 entries that has its contents
 pub record Contents (book : List ℕ) (count : ℕ) : Type 0 where
   pub count_is : count ≡ count_of book
   pub count_at_most : count ≤ count_limit
-  pub room : entry_place count ≤ length book
+  pub room : 2 + 3 * count ≤ length book

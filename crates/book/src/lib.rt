@@ -1,12 +1,20 @@
 // The curve book: a stored set of conics with their answers.
 use conic::conic::Conic;
-use paper::Refusal;
 use point::Point;
+use point::paper::Refusal;
 use solve::Reason;
 
+pub mod bytes;
 pub mod layout;
 
-// The answer that a book stores for a conic; only a point has coordinates.
+// The length of the book that was written.
+#[derive(Drop)]
+pub enum Written {
+    Length(usize),
+    Refused(Refusal),
+}
+
+// A stored answer; only a point has coordinates.
 #[derive(Drop)]
 pub enum Stored {
     Point(Point),
@@ -14,7 +22,7 @@ pub enum Stored {
     Degenerate,
 }
 
-// What the reader gives: a conic of a book with its stored answer, or a refusal.
+// A conic of a book with its stored answer.
 #[derive(Drop)]
 pub enum Entry {
     Conic(Conic, Stored),

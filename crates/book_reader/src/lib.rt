@@ -1,43 +1,34 @@
 // The reader of a book: the whole book is judged before an entry is given.
 ghost use Rattle.std.specs.Prelude.{◌≡◌, true, ◌&&◌, ◌+◌, ◌*◌, ◌≤◌, ◌<◌, eqb, length};
-ghost use Rattle.whole.specs.Tests.{is_zero};
-ghost use Rattle.paper.specs.Answers.{given};
+ghost use Rattle.point.specs.Paper.{is_zero};
 ghost use Rattle.conic.specs.Form.{Δ};
 ghost use Rattle.conic.specs.Base.{in_range};
 ghost use Rattle.solve.specs.Answer.{solved};
 ghost use Rattle.solve.specs.Solve.{solve_of};
-ghost use Rattle.little_endian.specs.Bytes.{number_at};
-ghost use Rattle.book.specs.Layout.{conic_bytes, entry_place, body_length, count_of, kind_at, offset_at, conic_at};
+ghost use Rattle.book.specs.Bytes.{number_at};
+ghost use Rattle.book.specs.Layout.{body_length, count_of, kind_at, conic_at};
 ghost use Rattle.book.specs.Steps.{Contents};
 ghost use Rattle.book.specs.Reader.{bodies_end, every_below, entry_holds, layout_holds, is_none_by_sign, is_none_by_prime, is_right_point, is_right, body_holds, entry, content_of, ReaderPromise};
 
-use book::layout::{CONIC_BYTES, COUNT_BYTES, ENTRY_BYTES};
-use book::{Entry, Stored, layout};
+use book::{Entry, Stored, bytes, layout};
 use conic::base;
-use conic::conic::{Conic, Judged};
-use paper::{COUNT_LIMIT, Refusal};
-use point::Point;
+use conic::base::Judged;
+use conic::conic::Conic;
+use point::paper::Refusal;
+use point::{Point, size};
 use solve::{Answer, Reason, Solved};
 
-// The kind in an entry: one read.
+// The kind in an entry.
 fn kind_at(book: &[u8], i: usize) -> usize
-    requires { entry_place i < length book.now }
+    requires { 2 + 3 * i < length book.now }
     ensures { result ≡ kind_at book.now i }
 {
-    little_endian::wide(book[COUNT_BYTES + ENTRY_BYTES * i]) as usize
+    bytes::wide(book[2 + 3 * i]) as usize
 }
 
-// The offset in an entry: two reads.
-fn offset_at(book: &[u8], i: usize) -> usize
-    requires { entry_place (i + 1) ≤ length book.now }
-    ensures { (result ≡ offset_at book.now i) × (result < 65_536) }
-{
-    little_endian::two_at(book, COUNT_BYTES + ENTRY_BYTES * i + 1) as usize
-}
-
-// Whether an entry's kind is 1 to 4 and its offset is where the bodies before it end: three tests.
+// Whether an entry's kind is 1 to 4 and its offset is where the bodies before it end.
 fn entry_holds(book: &[u8], i: usize, end: usize) -> bool
-    requires { (entry_place (i + 1) ≤ length book.now) × (end ≡ bodies_end book.now i) }
+    requires { (5 + 3 * i ≤ length book.now) × (end ≡ bodies_end book.now i) }
     ensures { result ≡ entry_holds book.now i }
 {
     let kind = kind_at(book, i);
@@ -47,16 +38,15 @@ fn entry_holds(book: &[u8], i: usize, end: usize) -> bool
     if kind > 4 {
         return false;
     }
-    offset_at(book, i) == end
+    bytes::two_at(book, 3 + 3 * i) == end as u64
 }
 
 // Whether each entry holds and the last body ends with the book: a step for each entry.
 fn entries_hold(book: &[u8], count: usize) -> bool
     requires { Contents book.now count }
-    ensures { result ≡ every_below (entry_holds book.now) count &&
-        eqb (bodies_end book.now count) (length book.now) }
+    ensures { result ≡ every_below (entry_holds book.now) count && eqb (bodies_end book.now count) (length book.now) }
 {
-    let mut end = COUNT_BYTES + ENTRY_BYTES * count;
+    let mut end = 2 + 3 * count;
     let mut i = 0;
     while i < count {
         if !entry_holds(book, i, end) {
@@ -72,20 +62,20 @@ fn entries_hold(book: &[u8], count: usize) -> bool
 fn layout_holds(book: &[u8]) -> bool
     ensures { result ≡ layout_holds book.now }
 {
-    if book.len() < COUNT_BYTES {
+    if book.len() < 2 {
         return false;
     }
-    let count = little_endian::two_at(book, 0) as usize;
-    if book.len() < COUNT_BYTES + ENTRY_BYTES * count {
+    let count = bytes::two_at(book, 0) as usize;
+    if book.len() < 2 + 3 * count {
         return false;
     }
-    if count > COUNT_LIMIT {
+    if count > layout::COUNT_LIMIT {
         return false;
     }
     entries_hold(book, count)
 }
 
-// Whether an answer is none by sign: three tests.
+// Three tests.
 fn is_none_by_sign(answer: Solved) -> bool
     ensures { result ≡ is_none_by_sign (solved answer) }
 {
@@ -98,7 +88,7 @@ fn is_none_by_sign(answer: Solved) -> bool
     if let Reason::Sign = why { true } else { false }
 }
 
-// Whether an answer is none by a prime: four tests.
+// Four tests.
 fn is_none_by_prime(prime: u64, answer: Solved) -> bool
     ensures { result ≡ is_none_by_prime prime (solved answer) }
 {
@@ -128,7 +118,7 @@ fn is_right_point(h: Conic, p: Point) -> bool
 
 // Whether solve gives none by sign on the conic at a place.
 fn is_right_sign(book: &[u8], at: usize) -> bool
-    requires { at + conic_bytes ≤ length book.now }
+    requires { at + 6 ≤ length book.now }
     ensures { result ≡ is_none_by_sign (solve_of (conic_at book.now at)) }
 {
     is_none_by_sign(solve::solve(layout::conic_at(book, at)))
@@ -137,10 +127,9 @@ fn is_right_sign(book: &[u8], at: usize) -> bool
 // Whether solve names the stored prime on the conic at a place.
 fn is_right_prime(book: &[u8], at: usize) -> bool
     requires { at + 10 ≤ length book.now }
-    ensures { result ≡ is_none_by_prime (number_at 4 book.now (at + conic_bytes))
-        (solve_of (conic_at book.now at)) }
+    ensures { result ≡ is_none_by_prime (number_at 4 book.now (at + 6)) (solve_of (conic_at book.now at)) }
 {
-    let prime = little_endian::four_at(book, at + CONIC_BYTES);
+    let prime = bytes::four_at(book, at + 6);
     is_none_by_prime(prime, solve::solve(layout::conic_at(book, at)))
 }
 
@@ -148,10 +137,10 @@ fn is_right_prime(book: &[u8], at: usize) -> bool
 fn is_degenerate(h: Conic) -> bool
     ensures { result ≡ in_range h && is_zero (Δ h) }
 {
-    let Judged::Refused(refusal) = h.judge() else {
+    if !h.in_range() {
         return false;
-    };
-    refusal.number() == 2
+    }
+    size::is_zero(h.determinant())
 }
 
 // Whether the body of a kind at a place is right: kinds 2 and 3 are solved.
@@ -160,10 +149,7 @@ fn is_right(kind: usize, book: &[u8], at: usize) -> bool
     ensures { result ≡ is_right kind book.now at }
 {
     match kind {
-        1 => is_right_point(
-            layout::conic_at(book, at),
-            layout::point_at(book, at + CONIC_BYTES),
-        ),
+        1 => is_right_point(layout::conic_at(book, at), layout::point_at(book, at + 6)),
         2 => is_right_sign(book, at),
         3 => is_right_prime(book, at),
         4 => is_degenerate(layout::conic_at(book, at)),
@@ -176,7 +162,7 @@ fn bodies_hold(book: &[u8], count: usize) -> bool
     requires { (count ≡ count_of book.now) × (layout_holds book.now ≡ true) }
     ensures { result ≡ every_below (body_holds book.now) count }
 {
-    let mut at = COUNT_BYTES + ENTRY_BYTES * count;
+    let mut at = 2 + 3 * count;
     let mut i = 0;
     while i < count {
         let kind = kind_at(book, i);
@@ -192,30 +178,26 @@ fn bodies_hold(book: &[u8], count: usize) -> bool
 // The conic of a number with its stored answer; its entry says where its body is.
 fn content_at(book: &[u8], i: usize) -> Entry
     requires { (layout_holds book.now ≡ true) × (i < count_of book.now) }
-    ensures { entry result ≡ given (content_of book.now i) }
+    ensures { entry result ≡ content_of (kind_at book.now i) book.now (bodies_end book.now i) }
 {
-    let at = offset_at(book, i);
+    let at = bytes::two_at(book, 3 + 3 * i) as usize;
     let h = layout::conic_at(book, at);
     match kind_at(book, i) {
-        1 => Entry::Conic(h, Stored::Point(layout::point_at(book, at + CONIC_BYTES))),
+        1 => Entry::Conic(h, Stored::Point(layout::point_at(book, at + 6))),
         2 => Entry::Conic(h, Stored::None(Reason::Sign)),
-        3 => Entry::Conic(
-            h,
-            Stored::None(Reason::Prime(little_endian::four_at(book, at + CONIC_BYTES))),
-        ),
+        3 => Entry::Conic(h, Stored::None(Reason::Prime(bytes::four_at(book, at + 6)))),
         _ => Entry::Conic(h, Stored::Degenerate),
     }
 }
 
-// Gives a book's conic of a number with its stored answer, once the whole book is judged: a step for each entry, and
-// each conic of kinds 2 and 3 is solved.
+// Judges the whole book first: a step for each entry, and each conic of kinds 2 and 3 is solved.
 pub fn read(book: &[u8], number: u64) -> Entry
     ensures { ReaderPromise book.now number result }
 {
     if !layout_holds(book) {
         return Entry::Refused(Refusal::Layout);
     }
-    let count = little_endian::two_at(book, 0);
+    let count = bytes::two_at(book, 0);
     if !bodies_hold(book, count as usize) {
         return Entry::Refused(Refusal::Body);
     }

@@ -5,14 +5,14 @@ use mathlib.Core.Path.{◌≡◌, sym, ap, ◌∙◌}
 use mathlib.Core.Logic.{◌≢◌}
 use mathlib.Core.List.{[], ◌∷◌}
 use native.Mathlib.Nat.{suc-ne-zero}
-use lib.IntN.{ℤ, pos, negsuc, nat_abs, ◌+ℤ◌, ◌-ℤ◌, ◌*ℤ◌, zero-*ℤ, *ℤ-zero}
+use lib.IntN.{ℤ, pos, negsuc, nat_abs, ◌+ℤ◌, ◌-ℤ◌, ◌*ℤ◌, +ℤ_idr, zero-*ℤ, *ℤ-zero}
 use Rattle.whole.proofs.Ring.{by_ring, reify}
 use Rattle.whole.proofs.Combination.{combine, ◌⊞◌, ◌⊠◌}
 use Rattle.whole.proofs.Products.{*ℤ_cancel, zero_of_square}
 use Rattle.whole.proofs.Cancel.{other_factor_zero}
 use Rattle.point.specs.declared.Point.{Point}
 use Rattle.point.proofs.Vector.{unit_x, unit_y, unit_z, Zero, Proportional}
-use Rattle.conic.specs.Form.{G, Gx, Gy, Gz, gradient, L, Δ}
+use Rattle.conic.specs.Form.{G, Gx, Gy, Gz, L, Δ}
 use Rattle.conic.specs.declared.conic.Conic.{Conic}
 use Rattle.conic.proofs.Form.{L-self, L-symmetric}
 
@@ -40,7 +40,10 @@ determinant_of_product a b c p s t =
 
 -- ---- the Gram identity
 
--- the matrix of 2G, whose rows' products with a point are the derivatives of G there
+-- the three derivatives of G at a point, which are the products of the point with the rows of the matrix of 2G
+abbrev gradient : Conic → Point → Point
+gradient h p = record { x = Gx h p; y = Gy h p; z = Gz h p }
+
 abbrev first_row : Conic → Point
 first_row h = record { x = pos 2 *ℤ h.a; y = h.b; z = h.d }
 
@@ -56,7 +59,7 @@ determinant_of_matrix h = by_ring (h.a ∷ h.b ∷ h.c ∷ h.d ∷ h.e ∷ h.f �
 
 determinant_of_gradients : (h : Conic) (p s t : Point) →
     det (gradient h p) (gradient h s) (gradient h t) ≡ det p s t *ℤ (pos 2 *ℤ Δ h)
-unfolding gradient Gx Gy Gz
+unfolding Gx Gy Gz
 determinant_of_gradients h p s t =
     determinant_of_product p s t (first_row h) (second_row h) (third_row h)
     ∙ ap (λ m. det p s t *ℤ m) (determinant_of_matrix h)
@@ -67,7 +70,7 @@ values h r p s t = record { x = L h r p; y = L h r s; z = L h r t }
 
 determinant_of_values : (h : Conic) (p s t : Point) →
     det (values h p p s t) (values h s p s t) (values h t p s t) ≡ det p s t *ℤ (pos 2 *ℤ Δ h) *ℤ det p s t
-unfolding L gradient
+unfolding L
 determinant_of_values h p s t =
     determinant_of_product (gradient h p) (gradient h s) (gradient h t) p s t
     ∙ ap (λ m. m *ℤ det p s t) (determinant_of_gradients h p s t)
@@ -120,42 +123,59 @@ determinant_vanishes h p s t δ e f g =
     (other_factor_zero δ
     (gram h p s t ∙ value_vanishes (G h p) (G h s) (G h t) (L h p s) (L h p t) (L h s t) e f g))
 
--- two points of the conic whose line lies on it are proportional: a determinant with a unit vector is a minor of the other two
+-- a determinant with a unit vector is a minor of the other two
+minor_x : (p t : Point) → p.y *ℤ t.z +ℤ det p unit_x t ≡ t.y *ℤ p.z
+unfolding det
+minor_x p t = by_ring (p.x ∷ p.y ∷ p.z ∷ t.x ∷ t.y ∷ t.z ∷ []) (search reify depth 64 fits 9999) tt
+
+minor_y : (p t : Point) → t.x *ℤ p.z +ℤ det p unit_y t ≡ p.x *ℤ t.z
+unfolding det
+minor_y p t = by_ring (p.x ∷ p.y ∷ p.z ∷ t.x ∷ t.y ∷ t.z ∷ []) (search reify depth 64 fits 9999) tt
+
+minor_z : (p t : Point) → p.x *ℤ t.y +ℤ det p unit_z t ≡ t.x *ℤ p.y
+unfolding det
+minor_z p t = by_ring (p.x ∷ p.y ∷ p.z ∷ t.x ∷ t.y ∷ t.z ∷ []) (search reify depth 64 fits 9999) tt
+
+-- two points of the conic whose line lies on it are proportional
 pub unseen_proportional : (h : Conic) (p t : Point) → Δ h ≢ pos 0 →
     G h p ≡ pos 0 → L h p t ≡ pos 0 → G h t ≡ pos 0 → Proportional p t
-unfolding det
 unseen_proportional h p t δ e f g =
     record {
-      x_y =
-          combine (negsuc 0 ⊠ none unit_z)
-          (by_ring (p.x ∷ p.y ∷ p.z ∷ t.x ∷ t.y ∷ t.z ∷ []) (search reify depth 64 fits 9999) tt);
-      x_z =
-          combine (pos 1 ⊠ none unit_y)
-          (by_ring (p.x ∷ p.y ∷ p.z ∷ t.x ∷ t.y ∷ t.z ∷ []) (search reify depth 64 fits 9999) tt);
-      y_z =
-          combine (negsuc 0 ⊠ none unit_x)
-          (by_ring (p.x ∷ p.y ∷ p.z ∷ t.x ∷ t.y ∷ t.z ∷ []) (search reify depth 64 fits 9999) tt);
+      x_y = equal (minor_z p t) (none unit_z);
+      x_z = sym (equal (minor_y p t) (none unit_y));
+      y_z = equal (minor_x p t) (none unit_x);
     }
   where
     none : (s : Point) → det p s t ≡ pos 0
-    none s = determinant_vanishes h p s t δ e f (rw g (zero-*ℤ (L h p s *ℤ L h p s)))
+    none s = determinant_vanishes h p s t δ e f (ap (λ m. m *ℤ (L h p s *ℤ L h p s)) g ∙ zero-*ℤ (L h p s *ℤ L h p s))
 
--- L with a unit vector is a derivative, a determinant with two a number of the point
-L-units : (h : Conic) (p : Point) → (L h p unit_x ≡ Gx h p) × (L h p unit_y ≡ Gy h p) × (L h p unit_z ≡ Gz h p)
+    equal : {m n d : ℤ} → m +ℤ d ≡ n → d ≡ pos 0 → m ≡ n
+    equal {m} e z = sym (+ℤ_idr m) ∙ ap (λ d. m +ℤ d) (sym z) ∙ e
+
+-- L with a unit vector is a derivative
+pub L-unit-x : (h : Conic) (p : Point) → L h p unit_x ≡ Gx h p
 unfolding L
-L-units h p = (
-  by_ring (Gx h p ∷ Gy h p ∷ Gz h p ∷ []) (search reify depth 64 fits 9999) tt,
-  by_ring (Gx h p ∷ Gy h p ∷ Gz h p ∷ []) (search reify depth 64 fits 9999) tt,
-  by_ring (Gx h p ∷ Gy h p ∷ Gz h p ∷ []) (search reify depth 64 fits 9999) tt,
-)
+L-unit-x h p = by_ring (Gx h p ∷ Gy h p ∷ Gz h p ∷ []) (search reify depth 64 fits 9999) tt
 
-numbers : (p : Point) → (det p unit_y unit_z ≡ p.x) × (det p unit_z unit_x ≡ p.y) × (det p unit_x unit_y ≡ p.z)
+pub L-unit-y : (h : Conic) (p : Point) → L h p unit_y ≡ Gy h p
+unfolding L
+L-unit-y h p = by_ring (Gx h p ∷ Gy h p ∷ Gz h p ∷ []) (search reify depth 64 fits 9999) tt
+
+pub L-unit-z : (h : Conic) (p : Point) → L h p unit_z ≡ Gz h p
+unfolding L
+L-unit-z h p = by_ring (Gx h p ∷ Gy h p ∷ Gz h p ∷ []) (search reify depth 64 fits 9999) tt
+
+number_x : (p : Point) → det p unit_y unit_z ≡ p.x
 unfolding det
-numbers p = (
-  by_ring (p.x ∷ p.y ∷ p.z ∷ []) (search reify depth 64 fits 9999) tt,
-  by_ring (p.x ∷ p.y ∷ p.z ∷ []) (search reify depth 64 fits 9999) tt,
-  by_ring (p.x ∷ p.y ∷ p.z ∷ []) (search reify depth 64 fits 9999) tt,
-)
+number_x p = by_ring (p.x ∷ p.y ∷ p.z ∷ []) (search reify depth 64 fits 9999) tt
+
+number_y : (p : Point) → det p unit_z unit_x ≡ p.y
+unfolding det
+number_y p = by_ring (p.x ∷ p.y ∷ p.z ∷ []) (search reify depth 64 fits 9999) tt
+
+number_z : (p : Point) → det p unit_x unit_y ≡ p.z
+unfolding det
+number_z p = by_ring (p.x ∷ p.y ∷ p.z ∷ []) (search reify depth 64 fits 9999) tt
 
 flat_vanishes : (h : Conic) (p s t : Point) → Δ h ≢ pos 0 →
     G h p ≡ pos 0 → L h p s ≡ pos 0 → L h p t ≡ pos 0 → det p s t ≡ pos 0
@@ -167,8 +187,7 @@ flat_vanishes h p s t δ e f g =
 pub at_infinity_if_flat : (h : Conic) (p : Point) → Δ h ≢ pos 0 →
     G h p ≡ pos 0 → Gx h p ≡ pos 0 → Gy h p ≡ pos 0 → p.z ≡ pos 0
 at_infinity_if_flat h p δ on e f =
-    let (x, y, z) = L-units h p in
-    sym (numbers p).2 ∙ flat_vanishes h p unit_x unit_y δ on (x ∙ e) (y ∙ f)
+    sym (number_z p) ∙ flat_vanishes h p unit_x unit_y δ on (L-unit-x h p ∙ e) (L-unit-y h p ∙ f)
 
 L-self-vanishes : (h : Conic) (p : Point) → Gx h p ≡ pos 0 → Gy h p ≡ pos 0 → Gz h p ≡ pos 0 → L h p p ≡ pos 0
 unfolding L
@@ -179,10 +198,11 @@ L-self-vanishes h p e f g =
 -- all three vanish together only at 0
 pub zero_if_singular : (h : Conic) (p : Point) → Δ h ≢ pos 0 →
     Gx h p ≡ pos 0 → Gy h p ≡ pos 0 → Gz h p ≡ pos 0 → Zero p
-zero_if_singular h p δ e f g =
-    let on = other_factor_zero two_not_zero (sym (L-self h p) ∙ L-self-vanishes h p e f g) in
-    let (x, y, z) = L-units h p in (
-      sym (numbers p).0 ∙ flat_vanishes h p unit_y unit_z δ on (y ∙ f) (z ∙ g),
-      sym (numbers p).1 ∙ flat_vanishes h p unit_z unit_x δ on (z ∙ g) (x ∙ e),
-      at_infinity_if_flat h p δ on e f,
-    )
+zero_if_singular h p δ e f g = (
+  sym (number_x p) ∙ flat_vanishes h p unit_y unit_z δ on (L-unit-y h p ∙ f) (L-unit-z h p ∙ g),
+  sym (number_y p) ∙ flat_vanishes h p unit_z unit_x δ on (L-unit-z h p ∙ g) (L-unit-x h p ∙ e),
+  at_infinity_if_flat h p δ on e f,
+)
+  where
+    on : G h p ≡ pos 0
+    on = other_factor_zero two_not_zero (sym (L-self h p) ∙ L-self-vanishes h p e f g)

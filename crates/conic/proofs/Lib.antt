@@ -6,4 +6,3 @@ pub mod Products
 pub mod Bounds
 pub mod Legal
 pub mod Promise
-pub mod Halves

@@ -22,10 +22,6 @@ Gy h p = h.b *ℤ p.x +ℤ pos 2 *ℤ h.c *ℤ p.y +ℤ h.e *ℤ p.z
 unfoldable pub Gz : Conic → Point → ℤ
 Gz h p = h.d *ℤ p.x +ℤ h.e *ℤ p.y +ℤ pos 2 *ℤ h.f *ℤ p.z
 
--- the three partial derivatives
-unfoldable pub gradient : Conic → Point → Point
-gradient h p = record { x = Gx h p; y = Gy h p; z = Gz h p }
-
 -- T's three numbers times the three partial derivatives of G at S
 unfoldable pub L : Conic → Point → Point → ℤ
 L h s t = t.x *ℤ Gx h s +ℤ t.y *ℤ Gy h s +ℤ t.z *ℤ Gz h s

@@ -1,21 +1,32 @@
 // A conic with a base point on it, and the refusals of others.
-ghost use Rattle.conic.specs.Base.{JudgePromise};
+ghost use Rattle.std.specs.Prelude.{◌≡◌};
+ghost use Rattle.conic.specs.Base.{judged, judged_of};
 
-use crate::conic::{Conic, Judged};
-use paper::Refusal;
-use point::Point;
+use crate::conic::Conic;
+use point::paper::Refusal;
+use point::{Point, size};
 
-// Whether a conic and a base are what both direction entries ask for: some hundred steps and two greatest common divisors.
+// Whether a conic and a base are what both direction entries ask for.
+#[derive(Drop)]
+pub enum Judged {
+    Legal,
+    Refused(Refusal),
+}
+
+// Some fifty steps and two greatest common divisors.
 pub fn judge(h: Conic, base: Point) -> Judged
-    ensures { JudgePromise h base result }
+    ensures { judged result ≡ judged_of h base }
 {
-    if let Judged::Refused(refusal) = h.judge() {
-        return Judged::Refused(refusal);
+    if !h.in_range() {
+        return Judged::Refused(Refusal::Range);
+    }
+    if size::is_zero(h.determinant()) {
+        return Judged::Refused(Refusal::Degenerate);
     }
     if !base.is_base() {
         return Judged::Refused(Refusal::Base);
     }
-    if h.is_on(base) {
+    if size::is_zero(h.at(base)) {
         Judged::Legal
     } else {
         Judged::Refused(Refusal::BaseOff)

@@ -1,39 +1,38 @@
--- A length that the row writer or the book writer returns fits a code: 40 bytes hold every row, and a book stands in
--- the buffer that was lent for it. Assumes nothing.
+-- A length that the row writer or the book writer returns is at most that of the buffer it was lent: what was written stands in it.
+-- Assumes nothing.
 use mathlib.Core.Bool.{Bool, true, false, cond}
-use mathlib.Core.List.{List}
-use mathlib.Core.Path.{◌≡◌, refl}
-use Prim.Native.Nat.{ℕ, ◌^◌, ◌<◌}
+use mathlib.Core.List.{List, ◌++◌}
+use mathlib.Core.Path.{◌≡◌, refl, sym, ap, ◌∙◌}
+use Prim.Native.Nat.{ℕ, ◌≤◌}
 use native.Mathlib.Omega.{arith}
 use lib.Dec.{ltb}
-use lib.ListN.{length}
+use lib.ListN.{length, drop, length-append}
 use borrow.Author.Tests.{ltb-false}
-use Rattle.paper.specs.Answers.{given, refused}
-use Rattle.row.specs.Row.{row_of, too_short, length_in}
-use Rattle.row.specs.Theorems.{RowsFit}
-use Rattle.row.proofs.Sizes.{rows_fit}
-use Rattle.book.specs.Writer.{book_of, conics_of, all_in_range, wrong_list, writer_answer}
-use Rattle.conic_c.specs.Codes.{LengthFits}
+use Rattle.row.specs.Row.{RowPromise, row_length, no_row, row_of, too_short}
+use Rattle.row.specs.declared.Written.TheVariants as RowWritten
+use Rattle.book.specs.Writer.{book_length, no_book, book_of, conics_of, all_in_range, wrong_list, writer_answer}
 
-pub row_fits : (text before : List ℕ) → LengthFits (length_in before (row_of text))
-unfolding RowsFit
-row_fits text before n = go (too_short before)
+pub row_within : {text before after : List ℕ} {n : ℕ} → RowPromise text before (RowWritten.Length n) after →
+    length after ≡ length before → n ≤ length before
+row_within {text} {before} {after} {n} h kept = go (too_short before) h.answer h.buffer
   where
-    go : (t : Bool) → cond t (refused 11) (given (length (row_of text))) ≡ given n → n < 2 ^ 63
-    go true e = let clash : ◌≡◌ {A = ℕ} 0 1 = cc in absurd (omega arith)
-    go false e = let same : length (row_of text) ≡ n = cc in omega (arith, rows_fit text)
+    go : (t : Bool) → row_length n ≡ cond t (no_row 11) (row_length (length (row_of text))) →
+        after ≡ cond t before (row_of text ++ drop (length (row_of text)) before) → n ≤ length before
+    go true e b = let z : ◌≡◌ {A = ℕ} 0 1 = cc in omega arith
+    go false e b =
+        let m : n ≡ length (row_of text) = cc in
+        omega (arith, m, sym kept ∙ ap length b ∙ length-append (row_of text) (drop (length (row_of text)) before))
 
-pub book_fits : (list before : List ℕ) → length before < 2 ^ 63 → LengthFits (writer_answer list before)
+pub book_within : (list before : List ℕ) (n : ℕ) → book_length n ≡ writer_answer list before → n ≤ length before
 unfolding writer_answer
-book_fits list before room n = go (wrong_list list) (all_in_range (conics_of list)) (ltb (length before) (length book)) refl
+book_within list before n = go (wrong_list list) (all_in_range (conics_of list)) (ltb (length before) (length book)) refl
   where
     book : List ℕ
     book = book_of (conics_of list)
 
     go : (w a t : Bool) → ltb (length before) (length book) ≡ t →
-        cond w (refused 15) (cond a (cond t (refused 14) (given (length book))) (refused 1)) ≡ given n → n < 2 ^ 63
-    go false true false f e =
-        let same : length book ≡ n = cc in omega (arith, ltb-false (length before) (length book) f)
-    go false true true f e = let clash : ◌≡◌ {A = ℕ} 0 1 = cc in absurd (omega arith)
-    go false false t f e = let clash : ◌≡◌ {A = ℕ} 0 1 = cc in absurd (omega arith)
-    go true a t f e = let clash : ◌≡◌ {A = ℕ} 0 1 = cc in absurd (omega arith)
+        book_length n ≡ cond w (no_book 15) (cond a (cond t (no_book 14) (book_length (length book))) (no_book 1)) → n ≤ length before
+    go true a t f e = let z : ◌≡◌ {A = ℕ} 0 1 = cc in omega arith
+    go false true true f e = let z : ◌≡◌ {A = ℕ} 0 1 = cc in omega arith
+    go false true false f e = let m : n ≡ length book = cc in omega (arith, m, ltb-false (length before) (length book) f)
+    go false false t f e = let z : ◌≡◌ {A = ℕ} 0 1 = cc in omega arith

@@ -1,39 +1,41 @@
--- The code that an exported function returns: a value's is 0 or more, a refusal's minus the paper's number. Assumes
--- nothing.
-use Rattle.std.specs.Prelude.{◌≡◌, ℕ, ◌^◌, ◌<◌, ℤ, pos, neg_ℤ}
-use Rattle.paper.specs.Answers.{Given, given, refused, point, none_by_sign_lem, none_by_prime, refusal}
-use Rattle.point.specs.Verdict.{Verdict}
-use Rattle.book.specs.Layout.{kind_of}
-use Rattle.book.specs.Reader.{StoredConic}
+-- The code that an exported function returns: an answer is 0 or more, a refusal minus the paper's number. Assumes nothing.
+use Rattle.std.specs.Prelude.{ℕ, ℤ, pos, neg_ℤ}
+use Rattle.point.specs.Paper.{Verdict, point, none_by_sign_lem, none_by_prime, refusal}
+use Rattle.direction.specs.Direction.{Bearing, direction, no_direction}
+use Rattle.row.specs.Row.{RowAnswer, row_length, no_row}
+use Rattle.book.specs.Writer.{WriterAnswer, book_length, no_book}
+use Rattle.book.specs.Reader.{ReaderAnswer, with_point, with_none_by_sign, with_none_by_prime, degenerate, no_entry}
 
--- by the number of a value
-abbrev pub code : {A : Type 0} → (A → ℕ) → Given A → ℤ
-code valued (given a) = pos (valued a)
-code valued (refused n) = neg_ℤ (pos n)
+-- what the library answers to each of the six functions
+pub data Given : Type 0 where
+  to_solve : Verdict → Given
+  to_point : Verdict → Given
+  to_direction : Bearing → Given
+  to_row : RowAnswer → Given
+  to_book_write : WriterAnswer → Given
+  to_book_read : ReaderAnswer → Given
 
--- solve's verdict as a value or a refusal
-abbrev pub answer_of : Verdict → Given Verdict
-answer_of (point p) = given (point p)
-answer_of none_by_sign_lem = given none_by_sign_lem
-answer_of (none_by_prime l) = given (none_by_prime l)
-answer_of (refusal n) = refused n
+abbrev pub refused : ℕ → ℤ
+refused n = neg_ℤ (pos n)
 
--- a point, none by sign and none by a prime have the numbers of their kinds in a book: 1, 2 and 3
-abbrev pub solve_code : Verdict → ℤ
-solve_code v = code kind_of (answer_of v)
-
--- a point or a direction that is reached has 0
-abbrev pub step_code : {A : Type 0} → Given A → ℤ
-step_code r = code (λ a. 0) r
-
--- a row and a book have their length
-abbrev pub length_code : Given ℕ → ℤ
-length_code r = code (λ n. n) r
-
--- which fits a signed word of 64 bits
-abbrev pub LengthFits : Given ℕ → Type 0
-LengthFits r = (n : ℕ) → r ≡ given n → n < 2 ^ 63
-
--- a conic of a book has its kind, 1 to 4
-abbrev pub entry_code : Given StoredConic → ℤ
-entry_code r = code (λ s. kind_of s.answer) r
+abbrev pub code : Given → ℤ
+code (to_solve (point p)) = pos 1
+code (to_solve none_by_sign_lem) = pos 2
+code (to_solve (none_by_prime l)) = pos 3
+code (to_solve (refusal n)) = refused n
+-- a direction leads to a point or is refused: the two codes of a none do not arise
+code (to_point (point p)) = pos 0
+code (to_point none_by_sign_lem) = pos 2
+code (to_point (none_by_prime l)) = pos 3
+code (to_point (refusal n)) = refused n
+code (to_direction (direction t)) = pos 0
+code (to_direction (no_direction n)) = refused n
+code (to_row (row_length n)) = pos n
+code (to_row (no_row n)) = refused n
+code (to_book_write (book_length n)) = pos n
+code (to_book_write (no_book n)) = refused n
+code (to_book_read (with_point h p)) = pos 1
+code (to_book_read (with_none_by_sign h)) = pos 2
+code (to_book_read (with_none_by_prime h l)) = pos 3
+code (to_book_read (degenerate h)) = pos 4
+code (to_book_read (no_entry n)) = refused n

@@ -1,15 +1,15 @@
--- The lent places as they are left: an answer's numbers where it has some for the place, and everywhere else what
--- stood there before. A none has no coordinates, so it leaves the place of a point. Assumes nothing.
+-- The lent places as they are left: an answer's numbers where it has some for the place, and everywhere else what stood there before.
+-- A none has no coordinates, so it leaves the place of a point. Assumes nothing.
 use Rattle.std.specs.Prelude.{List, [], ◌∷◌, ◌≡◌, ℕ, ℤ}
-use Rattle.paper.specs.Answers.{Given, given, refused, point, none_by_sign_lem, none_by_prime, refusal}
-use Rattle.point.specs.Verdict.{Verdict}
+use Rattle.point.specs.Paper.{Verdict, point, none_by_sign_lem, none_by_prime, refusal}
 use Rattle.point.specs.declared.Point.{Point}
 use Rattle.point.specs.declared.Direction.{Direction}
 use Rattle.conic.specs.declared.conic.Conic.{Conic}
 use Rattle.solve.specs.Answer.{reason_given}
 use Rattle.solve.specs.declared.Reason.{Reason}
-use Rattle.book.specs.Reader.{StoredConic}
-use Rattle.conic_c.specs.Codes.{solve_code, step_code, entry_code}
+use Rattle.direction.specs.Direction.{Bearing, direction, no_direction}
+use Rattle.book.specs.Reader.{ReaderAnswer, with_point, with_none_by_sign, with_none_by_prime, degenerate, no_entry}
+use Rattle.conic_c.specs.Codes.{code, to_solve, to_book_read}
 
 abbrev pub coordinates : Point → List ℤ
 coordinates p = p.x ∷ p.y ∷ p.z ∷ []
@@ -19,11 +19,6 @@ components t = t.u ∷ t.v ∷ []
 
 abbrev pub coefficients : Conic → List ℤ
 coefficients h = h.a ∷ h.b ∷ h.c ∷ h.d ∷ h.e ∷ h.f ∷ []
-
--- the numbers of a value, which a refusal has not
-abbrev pub place_left : {A : Type 0} → (A → List ℤ) → Given A → List ℤ → List ℤ
-place_left numbers (given a) before = numbers a
-place_left numbers (refused n) before = before
 
 abbrev pub point_left : Verdict → List ℤ → List ℤ
 point_left (point p) before = coordinates p
@@ -37,32 +32,40 @@ prime_left none_by_sign_lem before = before
 prime_left (none_by_prime l) before = l
 prime_left (refusal n) before = before
 
--- what the reader's answer says of the conic
-abbrev pub stored_verdict : Given StoredConic → Verdict
-stored_verdict (given s) = s.answer
-stored_verdict (refused n) = refusal n
+abbrev pub direction_left : Bearing → List ℤ → List ℤ
+direction_left (direction t) before = components t
+direction_left (no_direction n) before = before
+
+abbrev pub conic_left : ReaderAnswer → List ℤ → List ℤ
+conic_left (with_point h p) before = coefficients h
+conic_left (with_none_by_sign h) before = coefficients h
+conic_left (with_none_by_prime h l) before = coefficients h
+conic_left (degenerate h) before = coefficients h
+conic_left (no_entry n) before = before
+
+-- what an entry of a book says of its conic, with the paper's number of degenerate
+abbrev pub stored_verdict : ReaderAnswer → Verdict
+stored_verdict (with_point h p) = point p
+stored_verdict (with_none_by_sign h) = none_by_sign_lem
+stored_verdict (with_none_by_prime h l) = none_by_prime l
+stored_verdict (degenerate h) = refusal 2
+stored_verdict (no_entry n) = refusal n
 
 -- a none: its code, and the place of a prime
 pub record HandedReason (why : Reason) (prime : ℕ) (r : ℤ) (prime' : ℕ) : Type 0 where
-  pub code_is : r ≡ solve_code (reason_given why)
+  pub code_is : r ≡ code (to_solve (reason_given why))
   pub prime_is : prime' ≡ prime_left (reason_given why) prime
 
 -- an answer of solve: its code, and the places of a point and a prime
 pub record HandedVerdict (v : Verdict) (point : List ℤ) (prime : ℕ) (r : ℤ) (point' : List ℤ) (prime' : ℕ) : Type 0 where
-  pub code_is : r ≡ solve_code v
+  pub code_is : r ≡ code (to_solve v)
   pub point_is : point' ≡ point_left v point
   pub prime_is : prime' ≡ prime_left v prime
 
--- an answer of a step: its code, and the place of its numbers
-pub record HandedStep {A : Type 0} (numbers : A → List ℤ) (answer : Given A) (place : List ℤ) (r : ℤ)
-    (place' : List ℤ) : Type 0 where
-  pub code_is : r ≡ step_code answer
-  pub place_is : place' ≡ place_left numbers answer place
-
 -- an answer of the reader: its code, and the places of a conic, a point and a prime
-pub record HandedEntry (e : Given StoredConic) (conic point : List ℤ) (prime : ℕ) (r : ℤ) (conic' point' : List ℤ)
-    (prime' : ℕ) : Type 0 where
-  pub code_is : r ≡ entry_code e
-  pub conic_is : conic' ≡ place_left (λ s. coefficients s.conic) e conic
+pub record HandedEntry (e : ReaderAnswer) (conic point : List ℤ) (prime : ℕ) (r : ℤ) (conic' point' : List ℤ) (prime' : ℕ) :
+    Type 0 where
+  pub code_is : r ≡ code (to_book_read e)
+  pub conic_is : conic' ≡ conic_left e conic
   pub point_is : point' ≡ point_left (stored_verdict e) point
   pub prime_is : prime' ≡ prime_left (stored_verdict e) prime

@@ -1,5 +1,5 @@
-// The library for callers in C and Rust: six functions in flat form, each for every input. An answer's code is 0 or
-// more, a refusal's is minus the paper's number; exactly the places named for a code are written.
+// The library for callers in C and Rust: six functions in flat form, each for every input. An answer's code is 0 or more, a refusal's is
+// minus the paper's number; exactly the places named for a code are written.
 ghost use Rattle.conic_c.specs.Promises.{ConicSolve, ConicPoint, ConicDirection, ConicRow, ConicBookWrite, ConicBookRead};
 
 use book::Entry;
@@ -10,8 +10,7 @@ use solve::Solved;
 
 mod place;
 
-// A conic's point or none. 1: the point; 2, none by sign: nothing; 3, none by a prime: the prime. The cost is solve's
-// and at most three stores.
+// 1: the point; 2, none by sign: nothing; 3, none by a prime: the prime. The cost is solve's and at most three stores.
 #[unsafe(no_mangle)]
 pub extern "C" fn conic_solve(
     a: i64,
@@ -32,8 +31,7 @@ pub extern "C" fn conic_solve(
     }
 }
 
-// From a base and a direction to a point. 0: the point to which the direction (u, v) leads from the base. The cost is
-// the step's and three stores.
+// 0: the point to which the direction (u, v) leads from the base. The cost is the step's and three stores.
 #[unsafe(no_mangle)]
 pub extern "C" fn conic_point(
     a: i64,
@@ -58,7 +56,7 @@ pub extern "C" fn conic_point(
         y: py,
         z: pz,
     };
-    match direction::point_from(h, base, Direction { u, v }) {
+    match direction::point_of(h, base, Direction { u, v }) {
         Reached::Point(p) => {
             place::put_point(p, point);
             0
@@ -67,8 +65,7 @@ pub extern "C" fn conic_point(
     }
 }
 
-// From a base and a target to a direction. 0: the direction that leads from the base to the target. The cost is the
-// step's and two stores.
+// 0: the direction that leads from the base to the target. The cost is the step's and two stores.
 #[unsafe(no_mangle)]
 pub extern "C" fn conic_direction(
     a: i64,
@@ -99,7 +96,7 @@ pub extern "C" fn conic_direction(
         y: qy,
         z: qz,
     };
-    match direction::direction_to(h, base, target) {
+    match direction::direction_of(h, base, target) {
         Directed::Direction(t) => {
             place::put_direction(t, direction);
             0
@@ -108,25 +105,30 @@ pub extern "C" fn conic_direction(
     }
 }
 
-// Answers a text row by a row of text: the length of the row that was written, with its line feed. The cost is the
-// row's.
+// The length of the row that was written, with its line feed. The cost is the row's.
 #[unsafe(no_mangle)]
 pub extern "C" fn conic_row(text: &[u8], out: &mut [u8]) -> i64
     ensures { ConicRow text.now out.old result out.new }
 {
-    place::length_code(row::row(text, out))
+    match row::row(text, out) {
+        row::Written::Length(n) => n as i64,
+        row::Written::Refused(refusal) => place::refused(refusal),
+    }
 }
 
-// Writes the book of a list of conics: its length. The cost is the writer's.
+// The length of the book that was written. The cost is the writer's.
 #[unsafe(no_mangle)]
 pub extern "C" fn conic_book_write(list: &[u8], book: &mut [u8]) -> i64
     ensures { ConicBookWrite list.now book.old result book.new }
 {
-    place::length_code(book_writer::write(list, book))
+    match book_writer::write(list, book) {
+        book::Written::Length(n) => n as i64,
+        book::Written::Refused(refusal) => place::refused(refusal),
+    }
 }
 
-// A conic of a book with its stored answer. 1: the conic and the point; 2, none by sign, and 4, degenerate: the
-// conic; 3, none by a prime: the conic and the prime. The cost is the reader's and at most nine stores.
+// 1: the conic and the point; 2, none by sign, and 4, degenerate: the conic; 3, none by a prime: the conic and the prime. The cost is the
+// reader's and at most nine stores.
 #[unsafe(no_mangle)]
 pub extern "C" fn conic_book_read(
     book: &[u8],

@@ -1,12 +1,9 @@
 // Rows of digits on standard input, one row of text for each on standard output.
-mod faults;
-mod help;
-
 ghost use Rattle.std.specs.Prelude.{◌≤◌, length};
-ghost use Rattle.paper.specs.Limits.{buffer_limit};
+ghost use Rattle.row.specs.Row.{buffer_limit};
 
-use libc::STDIN_FILENO;
-use paper::Written;
+use libc::{STDIN_FILENO, STDOUT_FILENO};
+use row::Written;
 use rows::Cutter;
 
 // The row in the making, and whether there is more to read.
@@ -16,7 +13,7 @@ struct Reading {
     goes_on: bool,
 }
 
-// After a fault: nothing is left to answer, and nothing more is read.
+// After a write that failed: nothing is left to answer, and nothing more is read.
 fn stopped() -> Reading {
     Reading {
         cutter: Cutter::new(),
@@ -33,7 +30,7 @@ fn answer(cutter: Cutter, piece: &[u8], out: &mut [u8]) -> Reading
     while at < piece.len() {
         let fed = rows::feed(current, &piece[at..], out);
         let written = fed.written;
-        if !faults::write_all(&out[..written]) {
+        if !io::write_all(STDOUT_FILENO, &out[..written]) {
             return stopped();
         }
         current = fed.cutter;
@@ -45,16 +42,12 @@ fn answer(cutter: Cutter, piece: &[u8], out: &mut [u8]) -> Reading
     }
 }
 
-// Reads once and answers what came, which is nothing if the read was interrupted. After a read that fails the row in
-// the making may have gone on, so it is not answered.
+// Reads once and answers what came. A read that fails ends the input.
 fn read(cutter: Cutter, input: &mut [u8], out: &mut [u8]) -> Reading
     requires { buffer_limit ≤ length out.old }
 {
     let got = libc::read(STDIN_FILENO, input);
-    if got < 0 && faults::is_read_fault() {
-        return stopped();
-    }
-    if got == 0 {
+    if got <= 0 {
         return Reading {
             cutter,
             goes_on: false,
@@ -64,8 +57,7 @@ fn read(cutter: Cutter, input: &mut [u8], out: &mut [u8]) -> Reading
     answer(cutter, &input[..n], out)
 }
 
-// Reads and answers all that comes, and gives the row in the making. Nothing says that input ends, so the reads are
-// counted down from a number that no run uses up.
+// Nothing says that input ends, so the reads are counted down from a number that no run uses up.
 fn read_all(input: &mut [u8], out: &mut [u8]) -> Cutter
     requires { buffer_limit ≤ length out.old }
 {
@@ -85,22 +77,13 @@ fn read_all(input: &mut [u8], out: &mut [u8]) -> Cutter
 fn finish(cutter: Cutter, out: &mut [u8]) {
     let last = rows::finish(cutter, out);
     if let Written::Length(n) = last {
-        faults::write_all(&out[..n]);
+        io::write_all(STDOUT_FILENO, &out[..n]);
     }
 }
 
-// Answers all of standard input.
-fn answer_all() {
+fn main() {
     let mut input = io::large_buffer();
     let mut out = io::large_buffer();
     let cutter = read_all(&mut input, &mut out);
     finish(cutter, &mut out);
-}
-
-fn main() {
-    if os::arg_count() > 1 {
-        help::print();
-    } else {
-        answer_all();
-    }
 }

@@ -117,9 +117,19 @@ pub drawn_along_chord : (h : Conic) (p q : Point) → G h p ≡ pos 0 → G h q 
     drawn h p (at_infinity (chord p q)) ≡ scaled (neg_ℤ (p.z *ℤ p.z *ℤ L h p q)) q
 unfolding drawn at_infinity chord
 drawn_along_chord h p q on target =
-    let e = G-chord h p q on target in
-    let f = L-chord h p q on in
     same_point
-    (to_target _ _ p.z q.z (L h p q) p.x q.x e f)
-    (to_target _ _ p.z q.z (L h p q) p.y q.y e f)
-    (to_target_z _ (L h p (at_infinity (chord p q))) p.z q.z (L h p q) e)
+    (to_target g l p.z q.z (L h p q) p.x q.x e f)
+    (to_target g l p.z q.z (L h p q) p.y q.y e f)
+    (to_target_z g l p.z q.z (L h p q) e)
+  where
+    g : ℤ
+    g = G h (at_infinity (chord p q))
+
+    l : ℤ
+    l = L h p (at_infinity (chord p q))
+
+    e : g ≡ neg_ℤ (p.z *ℤ q.z *ℤ L h p q)
+    e = G-chord h p q on target
+
+    f : l ≡ p.z *ℤ L h p q
+    f = L-chord h p q on

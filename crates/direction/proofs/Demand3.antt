@@ -1,17 +1,23 @@
 -- Demand 3 holds: all of it follows from the two steps undoing each other up to the normal form of the direction, since multiples are
--- the directions with one normal form, and from the entries giving what the steps give. Assumes nothing.
-use mathlib.Core.Path.{◌≡◌, sym, ap, ◌∙◌, subst}
+-- the directions with one normal form. Assumes nothing.
+use mathlib.Core.Path.{◌≡◌, refl, sym, ap, ap₂, ◌∙◌, subst}
 use mathlib.Core.Logic.{◌↔◌}
-use Rattle.paper.specs.Answers.{given}
+use mathlib.Core.Bool.{true, false, cond}
+use Prim.Native.Nat.{ℕ}
+use Rattle.number.proofs.Least.{true_of_T}
+use Rattle.point.specs.Paper.{point, refusal, is_zero}
+use Rattle.point.specs.Legal.{is_base, is_target, is_direction}
 use Rattle.point.specs.declared.Point.{Point}
 use Rattle.point.specs.declared.Direction.{Direction}
-use Rattle.conic.specs.Base.{LegalBase}
+use Rattle.point.proofs.Tests.{is_zero_iff, is_zero_not}
+use Rattle.conic.specs.Form.{G, Δ}
+use Rattle.conic.specs.Base.{in_range, from_base, LegalBase}
 use Rattle.conic.specs.declared.conic.Conic.{Conic}
-use Rattle.direction.specs.Direction.{point_from, direction_to, tangent}
-use Rattle.direction.specs.Demand3.{OnConic, Based, Proper, Multiples, StepsAreRight, TangentGivesBase, SamePointExactly, EveryPointOnce, StepsUndo, EntriesGiveSteps, EntriesUndo}
-use Rattle.direction.proofs.Directions.{normal_direction_proper, multiples_iff}
-use Rattle.direction.proofs.Entries.{point_given, direction_given}
-use Rattle.direction.proofs.Undo.{tangent_is_proper, point_from_on, direction_to_normal, point_from_normal_direction, point_from_tangent, point_from_direction_to, direction_to_point_from}
+use Rattle.direction.specs.Direction.{direction, no_direction, point_from, direction_to, tangent, point_of, direction_of}
+use Rattle.direction.specs.Demand3.{OnConic, Based, Proper, Multiples, StepsAreRight, TangentGivesBase, SamePointExactly, EveryPointOnce, StepsUndo, EntriesGiveSteps}
+use Rattle.direction.proofs.Directions.{normal_direction_proper, normal_direction_of_normal, multiples_iff}
+use Rattle.direction.proofs.Tests.{legal_is_based}
+use Rattle.direction.proofs.Steps.{tangent_is_proper, point_from_on, direction_to_normal, point_from_normal_direction, point_from_tangent, point_from_direction_to, direction_to_point_from}
 
 -- ---- the steps
 
@@ -55,37 +61,43 @@ every_point_once h p base q on t f =
     point_iff h p base t (direction_to h p q) f (direction_proper h p base q on) (point_from_direction_to h p base q on)
 
 pub steps_undo : StepsUndo
-unfolding StepsUndo
-steps_undo h p base = (point_from_direction_to h p base, direction_to_point_from h p base)
+unfolding StepsUndo EveryPointOnce
+steps_undo h p base = (
+  point_from_direction_to h p base,
+  λ t f. (every_point_once h p base (point_from h p t) (point_from_on h p base t f) t f).0 refl,
+  λ t n. direction_to_point_from h p base t (normal_direction_proper n) ∙ normal_direction_of_normal n,
+)
 
 -- ---- the entries
 
--- a legal base is a base of the steps
-legal_is_based : {h : Conic} {p : Point} → LegalBase h p → Based h p
-legal_is_based l =
-    record {
-      not_degenerate = l.not_degenerate;
-      on_conic = record { normal_form = l.base.normal_form; on = l.on };
-      in_plane = l.base.in_plane;
-    }
+past_base : {A : Type 0} (refuse : ℕ → A) (h : Conic) (p : Point) (next : A) → LegalBase h p → from_base refuse h p next ≡ next
+unfolding from_base
+past_base refuse h p next l = λ i.
+    cond (in_range_lem i)
+    (cond (not_degenerate i) (refuse 2) (cond (legal i) (cond (on i) next (refuse 6)) (refuse 5)))
+    (refuse 1)
+  where
+    in_range_lem : in_range h ≡ true
+    in_range_lem = true_of_T (in_range h) l.in_range_lem
+
+    not_degenerate : is_zero (Δ h) ≡ false
+    not_degenerate = is_zero_not l.not_degenerate
+
+    legal : is_base p ≡ true
+    legal = true_of_T (is_base p) l.legal
+
+    on : is_zero (G h p) ≡ true
+    on = is_zero_iff.1 l.on
 
 pub entries_give_steps : EntriesGiveSteps
-unfolding EntriesGiveSteps
-entries_give_steps h p l = (legal_is_based l, λ t. point_given l, λ q. direction_given l)
-
-pub entries_undo : EntriesUndo
-unfolding EntriesUndo
-entries_undo h p l = (
-  λ t d target.
-      let proper : Proper t = record { not_both_zero = d.not_both_zero } in (
-        point_given l d,
-        direction_given l target (point_from_on h p base t proper).on ∙ ap given (direction_to_point_from h p base t proper),
-      ),
-  λ q target on d. (
-    direction_given l target on,
-    point_given l d ∙ ap given (point_from_direction_to h p base q (record { normal_form = target.normal_form; on = on })),
-  ),
+unfolding EntriesGiveSteps point_of direction_of
+entries_give_steps h p l = (
+  legal_is_based l,
+  λ t d.
+      past_base refusal h p _ l
+      ∙ ap (λ b. cond b (point (point_from h p t)) (refusal 7)) (true_of_T (is_direction t) d),
+  λ q d on.
+      past_base no_direction h p _ l
+      ∙ ap₂ (λ b c. cond b (cond c (direction (direction_to h p q)) (no_direction 9)) (no_direction 8))
+      (true_of_T (is_target q) d) (is_zero_iff.1 on),
 )
-  where
-    base : Based h p
-    base = legal_is_based l

@@ -1,20 +1,17 @@
--- Directions as points at infinity: since a direction's normal form is that of its point, two directions that are not (0, 0) are
+-- Directions as points at infinity: a direction's normal form is that of its point, and two directions that are not (0, 0) are
 -- multiples of each other exactly if their normal forms are equal. Assumes nothing.
 use mathlib.Core.Path.{◌≡◌, refl, sym, ap, ◌∙◌, subst}
 use mathlib.Core.Logic.{◌≢◌, ◌↔◌}
 use mathlib.Core.List.{[], ◌∷◌}
-use lib.IntN.{ℤ, pos, neg_ℤ, ◌*ℤ◌, *ℤ-zero}
-use Rattle.basic.proofs.Tests.{by_test}
-use Rattle.whole.specs.Tests.{is_zero}
-use Rattle.whole.proofs.Tests.{is_zero_iff, not_zero_of_false}
+use lib.IntN.{ℤ, pos, neg_ℤ, ◌*ℤ◌, ℤ_discrete, *ℤ-zero}
 use Rattle.whole.proofs.Ring.{by_ring, reify}
 use Rattle.whole.proofs.Combination.{combine, ◌⊞◌, ◌⊠◌}
 use Rattle.whole.proofs.Products.{*ℤ_cancel}
 use Rattle.whole.proofs.Cancel.{other_factor_zero}
 use Rattle.point.specs.Normal.{normal, NormalForm, at_infinity, normal_direction, NormalDirection}
 use Rattle.point.specs.declared.Direction.{Direction}
-use Rattle.point.proofs.Vector.{Zero, Proportional}
-use Rattle.point.proofs.Normal.{normal_is_normal_form, normal_form_not_zero, normal_equal_iff, at_infinity_normal}
+use Rattle.point.proofs.Vector.{same_point, Zero, Proportional}
+use Rattle.point.proofs.Normal.{normal_is_normal_form, normal_form_not_zero, normal_of_normal_form, normal_equal_iff, normal_at_infinity}
 use Rattle.direction.specs.Demand3.{Proper, Multiples}
 
 -- k·T
@@ -43,11 +40,17 @@ normal_direction_proper n = proper_of_not_zero (normal_form_not_zero n)
 
 -- a number whose multiple of a proper direction is (0, 0)
 pub zero_multiple : {k : ℤ} {t : Direction} → Proper t → k *ℤ t.u ≡ pos 0 → k *ℤ t.v ≡ pos 0 → k ≡ pos 0
-zero_multiple {k} proper e f =
-    by_test (is_zero k) is_zero_iff.0
-    (λ no. let g = not_zero_of_false no in absurd (proper.not_both_zero (other_factor_zero g e, other_factor_zero g f)))
+zero_multiple {k} proper e f = pick (ℤ_discrete k (pos 0))
+  where
+    pick : Dec (k ≡ pos 0) → k ≡ pos 0
+    pick (yes z) = z
+    pick (no g) = absurd (proper.not_both_zero (other_factor_zero g e, other_factor_zero g f))
 
 -- ---- normal form
+
+pub at_infinity_normal : (t : Direction) → at_infinity (normal_direction t) ≡ normal (at_infinity t)
+unfolding at_infinity normal_direction
+at_infinity_normal t = same_point refl refl (sym (normal_at_infinity (at_infinity t) refl))
 
 pub normal_direction_is_normal : {t : Direction} → Proper t → NormalDirection (normal_direction t)
 normal_direction_is_normal {t} proper =
@@ -55,6 +58,9 @@ normal_direction_is_normal {t} proper =
 
 pub normal_direction_is_proper : {t : Direction} → Proper t → Proper (normal_direction t)
 normal_direction_is_proper proper = normal_direction_proper (normal_direction_is_normal proper)
+
+pub normal_direction_of_normal : {t : Direction} → NormalDirection t → normal_direction t ≡ t
+normal_direction_of_normal {t} n = same_at_infinity (at_infinity_normal t ∙ normal_of_normal_form n)
 
 -- ---- multiples of each other
 

@@ -1,6 +1,6 @@
 -- The second point of a line through P, R = G(T)P − L(P, T)T, grows with the square of T, along the tangent is a multiple of P, and
 -- with T at infinity and P in the plane is not 0. Assumes nothing.
-use mathlib.Core.Path.{◌≡◌, sym, ◌∙◌}
+use mathlib.Core.Path.{◌≡◌, sym, ap, ◌∙◌}
 use mathlib.Core.Logic.{◌≢◌}
 use mathlib.Core.List.{[], ◌∷◌}
 use lib.IntN.{ℤ, pos, negsuc, neg_ℤ, ◌-ℤ◌, ◌*ℤ◌, *ℤ_comm, *ℤ-zero}
@@ -27,7 +27,10 @@ drawn_scaled h p k t = same_point (each p.x t.x) (each p.y t.y) (each p.z t.z)
   where
     each : (m n : ℤ) →
         G h (scaled k t) *ℤ m -ℤ L h p (scaled k t) *ℤ (k *ℤ n) ≡ k *ℤ k *ℤ (G h t *ℤ m -ℤ L h p t *ℤ n)
-    each m n = rw (G-scaled h k t, L-scaled h p k t) (square_out k (G h t) (L h p t) m n)
+    each m n =
+        ap (λ g. g *ℤ m -ℤ L h p (scaled k t) *ℤ (k *ℤ n)) (G-scaled h k t)
+        ∙ ap (λ l. k *ℤ k *ℤ G h t *ℤ m -ℤ l *ℤ (k *ℤ n)) (L-scaled h p k t)
+        ∙ square_out k (G h t) (L h p t) m n
 
 -- ---- a line of direction T through P
 

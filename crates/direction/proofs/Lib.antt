@@ -2,7 +2,7 @@ pub mod Directions
 pub mod Drawing
 pub mod Chords
 pub mod Tests
-pub mod Undo
+pub mod Steps
 pub mod Demand3
 pub mod Entries
 pub mod Room

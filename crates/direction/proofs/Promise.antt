@@ -1,11 +1,20 @@
--- The promises of the two entries determine their answers, which can be told from what they stand for in the paper. Assumes nothing.
+-- The promises of the two entries determine their answers, which can be told from what they stand for in the paper. A
+-- direction leads to a point or is refused: the tests give nothing else. Assumes nothing.
+use mathlib.Core.Bool.{Bool, true, false, cond}
 use mathlib.Core.Path.{◌≡◌, refl, sym, ap, ◌∙◌}
-use Rattle.paper.specs.Answers.{Given, given, refused}
-use Rattle.paper.proofs.Promise.{told_apart, numbered, numbered_number}
+use Prim.Native.Nat.{ℕ}
+use native.Mathlib.Omega.{arith}
+use Rattle.point.specs.Legal.{is_base, is_direction}
+use Rattle.point.specs.Paper.{Verdict, point, none_by_sign_lem, none_by_prime, refusal, is_zero}
+use Rattle.point.specs.declared.paper.Refusal.{Refusal}
+use Rattle.point.specs.declared.paper.Refusal.TheVariants as Refusal
 use Rattle.point.specs.declared.Point.{Point}
 use Rattle.point.specs.declared.Direction.{Direction}
+use Rattle.point.proofs.Promise.{told_apart, numbered, numbered_number}
+use Rattle.conic.specs.Base.{in_range, from_base}
+use Rattle.conic.specs.Form.{G, Δ}
 use Rattle.conic.specs.declared.conic.Conic.{Conic}
-use Rattle.direction.specs.Direction.{PointPromise, DirectionPromise, reached, directed}
+use Rattle.direction.specs.Direction.{PointPromise, DirectionPromise, Bearing, direction, no_direction, reached, directed, point_from, point_of}
 use Rattle.direction.specs.declared.Reached.{Reached}
 use Rattle.direction.specs.declared.Reached.TheVariants as Reached
 use Rattle.direction.specs.declared.Directed.{Directed}
@@ -13,17 +22,20 @@ use Rattle.direction.specs.declared.Directed.TheVariants as Directed
 
 -- ---- answers
 
-abbrev to_reached : Given Point → Reached
-to_reached (given p) = Reached.Point p
-to_reached (refused n) = Reached.Refused (numbered n)
+-- a none is no answer of this step
+abbrev to_reached : Verdict → Reached
+to_reached (point p) = Reached.Point p
+to_reached none_by_sign_lem = Reached.Refused Refusal.Range
+to_reached (none_by_prime l) = Reached.Refused Refusal.Range
+to_reached (refusal n) = Reached.Refused (numbered n)
 
 reached_back : (r : Reached) → to_reached (reached r) ≡ r
 reached_back (Reached.Point p) = refl
 reached_back (Reached.Refused r) = ap Reached.Refused (numbered_number r)
 
-abbrev to_directed : Given Direction → Directed
-to_directed (given t) = Directed.Direction t
-to_directed (refused n) = Directed.Refused (numbered n)
+abbrev to_directed : Bearing → Directed
+to_directed (direction t) = Directed.Direction t
+to_directed (no_direction n) = Directed.Refused (numbered n)
 
 directed_back : (r : Directed) → to_directed (directed r) ≡ r
 directed_back (Directed.Direction t) = refl
@@ -36,3 +48,34 @@ point_determined {r = r} {r' = r'} a b = told_apart reached to_reached reached_b
 
 pub direction_determined : {h : Conic} {p q : Point} {r r' : Directed} → DirectionPromise h p q r → DirectionPromise h p q r' → r ≡ r'
 direction_determined {r = r} {r' = r'} a b = told_apart directed to_directed directed_back r r' (a.as_defined ∙ sym b.as_defined)
+
+-- ---- a direction leads to a point or is refused
+
+data Plain : Verdict → Type 0 where
+  is_point_lem : (p : Point) → Plain (point p)
+  is_refusal_lem : (n : ℕ) → Plain (refusal n)
+
+one_of : (t : Bool) {v w : Verdict} → Plain v → Plain w → Plain (cond t v w)
+one_of true v w = v
+one_of false v w = w
+
+no_sign : {v : Verdict} → Plain v → ¬ (v ≡ none_by_sign_lem)
+no_sign (is_point_lem p) e = let z : ◌≡◌ {A = ℕ} 0 1 = cc in omega arith
+no_sign (is_refusal_lem n) e = let z : ◌≡◌ {A = ℕ} 0 1 = cc in omega arith
+
+no_prime : {v : Verdict} (l : ℕ) → Plain v → ¬ (v ≡ none_by_prime l)
+no_prime l (is_point_lem p) e = let z : ◌≡◌ {A = ℕ} 0 1 = cc in omega arith
+no_prime l (is_refusal_lem n) e = let z : ◌≡◌ {A = ℕ} 0 1 = cc in omega arith
+
+pub point_is_no_none :
+    (h : Conic) (p : Point) (t : Direction) → (¬ (point_of h p t ≡ none_by_sign_lem)) × ((l : ℕ) → ¬ (point_of h p t ≡ none_by_prime l))
+unfolding point_of from_base
+point_is_no_none h p t =
+    let plain : Plain (point_of h p t) =
+    one_of (in_range h)
+    (one_of (is_zero (Δ h)) (is_refusal_lem 2)
+    (one_of (is_base p)
+    (one_of (is_zero (G h p)) (one_of (is_direction t) (is_point_lem (point_from h p t)) (is_refusal_lem 7)) (is_refusal_lem 6))
+    (is_refusal_lem 5)))
+    (is_refusal_lem 1) in
+    (no_sign plain, λ l. no_prime l plain)

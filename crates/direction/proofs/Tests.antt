@@ -1,24 +1,47 @@
--- The test of two points says that they are the same. Assumes nothing.
-use mathlib.Core.Path.{◌≡◌, ap}
-use mathlib.Core.Logic.{◌↔◌}
-use mathlib.Core.Bool.{true}
+-- The tests of the definitions say what they are named for: two points are the same, a base is legal. Assumes nothing.
+use mathlib.Core.Path.{◌≡◌, ap, ap₂, ◌∙◌}
+use mathlib.Core.Logic.{◌≢◌, ◌↔◌}
+use mathlib.Core.Bool.{true, false, ◌&&◌, and-eq-true_iff}
 use lib.IntN.{ℤ, ◌-ℤ◌, +ℤ_invr}
-use Rattle.basic.proofs.Tests.{both_iff}
-use Rattle.whole.specs.Tests.{is_zero}
 use Rattle.whole.proofs.Laws.{equal_of_difference}
-use Rattle.whole.proofs.Tests.{is_zero_iff}
+use Rattle.number.proofs.Least.{true_of_T, false_of_not_true}
+use Rattle.point.specs.Paper.{is_zero}
+use Rattle.point.specs.Legal.{is_base}
 use Rattle.point.specs.declared.Point.{Point}
 use Rattle.point.proofs.Vector.{same_point}
+use Rattle.point.proofs.Tests.{is_zero_iff, is_base_iff}
+use Rattle.conic.specs.Base.{LegalBase}
+use Rattle.conic.specs.declared.conic.Conic.{Conic}
 use Rattle.direction.specs.Direction.{is_same}
+use Rattle.direction.specs.Demand3.{Based}
 
-same_iff : (m n : ℤ) → (is_zero (m -ℤ n) ≡ true) ↔ (m ≡ n)
-same_iff m n = (λ e. equal_of_difference m n (is_zero_iff.0 e), λ e. is_zero_iff.1 (rw e (+ℤ_invr n)))
+difference_zero : {m n : ℤ} → m ≡ n → is_zero (m -ℤ n) ≡ true
+difference_zero {m} {n} e = is_zero_iff.1 (ap (λ k. k -ℤ n) e ∙ +ℤ_invr n)
 
 pub is_same_iff : {p q : Point} → (is_same p q ≡ true) ↔ (p ≡ q)
 unfolding is_same
-is_same_iff = (
-  λ e. let ((a, b), c) = (both_iff (both_iff (same_iff _ _) (same_iff _ _)) (same_iff _ _)).0 e in same_point a b c,
+is_same_iff {p} {q} = (
   λ e.
-      (both_iff (both_iff (same_iff _ _) (same_iff _ _)) (same_iff _ _)).1
-      ((ap (λ v. v.x) e, ap (λ v. v.y) e), ap (λ v. v.z) e),
+      let (ab, c) = (and-eq-true_iff _ _).0 e in
+      let (a, b) = (and-eq-true_iff _ _).0 ab in
+      same_point
+      (equal_of_difference p.x q.x (is_zero_iff.0 a))
+      (equal_of_difference p.y q.y (is_zero_iff.0 b))
+      (equal_of_difference p.z q.z (is_zero_iff.0 c)),
+  λ e.
+      ap₂ ◌&&◌ (ap₂ ◌&&◌ (difference_zero (ap (λ v. v.x) e)) (difference_zero (ap (λ v. v.y) e)))
+      (difference_zero (ap (λ v. v.z) e)),
 )
+
+pub is_same_not : {p q : Point} → p ≢ q → is_same p q ≡ false
+is_same_not f = false_of_not_true λ e. f (is_same_iff.0 e)
+
+-- a legal base is a base of the steps
+pub legal_is_based : {h : Conic} {p : Point} → LegalBase h p → Based h p
+legal_is_based {h} {p} l =
+    let (within, normal, above) = is_base_iff.0 (true_of_T (is_base p) l.legal) in
+    record {
+      not_degenerate = l.not_degenerate;
+      on_conic = record { normal_form = normal; on = l.on };
+      in_plane = above;
+    }

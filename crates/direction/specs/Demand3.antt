@@ -1,16 +1,15 @@
 -- Demand 3, as statements about the two steps over all whole numbers: from a base point, directions up to multiples and rational
--- points of the conic (infinity included) correspond one to one, and each step undoes the other; and, within the limits, about the two
--- entries. Assumes nothing.
-use Rattle.std.specs.Prelude.{◌≡◌, ◌↔◌, pos, ◌*ℤ◌, ◌<ℤ◌}
-use Rattle.paper.specs.Answers.{given}
-use Rattle.point.specs.Normal.{NormalForm, NormalDirection, normal_direction}
-use Rattle.point.specs.Legal.{Target}
+-- points of the conic (infinity included) correspond one to one, and each step undoes the other. Assumes nothing.
+use Rattle.std.specs.Prelude.{◌≡◌, ◌↔◌, T, pos, ◌*ℤ◌, ◌<ℤ◌}
+use Rattle.point.specs.Normal.{NormalForm, NormalDirection}
+use Rattle.point.specs.Paper.{point}
+use Rattle.point.specs.Legal.{is_target, is_direction}
 use Rattle.point.specs.declared.Point.{Point}
 use Rattle.point.specs.declared.Direction.{Direction}
 use Rattle.conic.specs.Form.{G, Δ}
 use Rattle.conic.specs.Base.{LegalBase}
 use Rattle.conic.specs.declared.conic.Conic.{Conic}
-use Rattle.direction.specs.Direction.{LegalDirection, point_from, direction_to, tangent, point_answer, direction_answer}
+use Rattle.direction.specs.Direction.{direction, point_from, direction_to, tangent, point_of, direction_of}
 
 -- a rational point of the conic, infinity included
 pub record OnConic (h : Conic) (q : Point) : Type 0 where
@@ -56,26 +55,18 @@ EveryPointOnce =
     (h : Conic) (p : Point) → Based h p →
     (q : Point) → OnConic h q → (t : Direction) → Proper t → point_from h p t ≡ q ↔ Multiples t (direction_to h p q)
 
--- 5. each step undoes the other, up to the normal form of the direction
+-- 5. each step undoes the other
 unfoldable pub StepsUndo : Type 0
 StepsUndo =
     (h : Conic) (p : Point) → Based h p →
     ((q : Point) → OnConic h q → point_from h p (direction_to h p q) ≡ q) ×
-    ((t : Direction) → Proper t → direction_to h p (point_from h p t) ≡ normal_direction t)
+    ((t : Direction) → Proper t → Multiples t (direction_to h p (point_from h p t))) ×
+    ((t : Direction) → NormalDirection t → direction_to h p (point_from h p t) ≡ t)
 
 -- 6. a base that the entries take is one of the steps', and within the limits they give exactly what the steps give
 unfoldable pub EntriesGiveSteps : Type 0
 EntriesGiveSteps =
     (h : Conic) (p : Point) → LegalBase h p →
     Based h p ×
-    ((t : Direction) → LegalDirection h p t → point_answer h p t ≡ given (point_from h p t)) ×
-    ((q : Point) → Target q → G h q ≡ pos 0 → direction_answer h p q ≡ given (direction_to h p q))
-
--- 7. each entry undoes the other, wherever what the one gives may be handed to the other
-unfoldable pub EntriesUndo : Type 0
-EntriesUndo =
-    (h : Conic) (p : Point) → LegalBase h p →
-    ((t : Direction) → LegalDirection h p t → Target (point_from h p t) →
-    (point_answer h p t ≡ given (point_from h p t)) × (direction_answer h p (point_from h p t) ≡ given (normal_direction t))) ×
-    ((q : Point) → Target q → G h q ≡ pos 0 → LegalDirection h p (direction_to h p q) →
-    (direction_answer h p q ≡ given (direction_to h p q)) × (point_answer h p (direction_to h p q) ≡ given q))
+    ((t : Direction) → T (is_direction t) → point_of h p t ≡ point (point_from h p t)) ×
+    ((q : Point) → T (is_target q) → G h q ≡ pos 0 → direction_of h p q ≡ direction (direction_to h p q))

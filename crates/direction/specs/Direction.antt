@@ -1,12 +1,9 @@
 -- Directions from a base point: the step from a direction to a point and the step from a point to a direction, over all whole
 -- numbers; and the two entries, with their refusals in the paper's order. Assumes nothing.
-use Rattle.std.specs.Prelude.{Bool, ◌&&◌, cond, neg_ℤ, ◌-ℤ◌, ◌*ℤ◌, ◌≡◌}
-use Rattle.whole.specs.Tests.{is_zero}
-use Rattle.paper.specs.Limits.{direction_limit}
-use Rattle.paper.specs.Refusals.{number}
-use Rattle.paper.specs.Answers.{Given, given, refused}
+use Rattle.std.specs.Prelude.{Bool, ◌&&◌, cond, ℕ, neg_ℤ, ◌-ℤ◌, ◌*ℤ◌, ◌≡◌}
 use Rattle.point.specs.Normal.{normal, normal_direction, at_infinity}
-use Rattle.point.specs.Legal.{is_target, is_direction, Handed}
+use Rattle.point.specs.Paper.{Verdict, point, refusal, is_zero, number}
+use Rattle.point.specs.Legal.{is_target, is_direction}
 use Rattle.point.specs.declared.Point.{Point}
 use Rattle.point.specs.declared.Direction.{Direction}
 use Rattle.conic.specs.Form.{G, Gx, Gy, drawn}
@@ -19,13 +16,18 @@ use Rattle.direction.specs.declared.Directed.TheVariants as Directed
 
 -- Answers
 
-abbrev pub reached : Reached → Given Point
-reached (Reached.Point p) = given p
-reached (Reached.Refused r) = refused (number r)
+-- a direction, or a refusal by its number
+pub data Bearing : Type 0 where
+  direction : Direction → Bearing
+  no_direction : ℕ → Bearing
 
-abbrev pub directed : Directed → Given Direction
-directed (Directed.Direction t) = given t
-directed (Directed.Refused r) = refused (number r)
+abbrev pub reached : Reached → Verdict
+reached (Reached.Point p) = point p
+reached (Reached.Refused r) = refusal (number r)
+
+abbrev pub directed : Directed → Bearing
+directed (Directed.Direction t) = direction t
+directed (Directed.Refused r) = no_direction (number r)
 
 -- The two steps
 
@@ -50,24 +52,18 @@ direction_to h p q = normal_direction (cond (is_same q p) (tangent h p) (chord p
 
 -- The entries
 
--- what may be handed in as a direction, as a test, and in the paper's words
-unfoldable pub legal_direction : Conic → Point → Direction → Bool
-legal_direction h p t = is_direction direction_limit t
+unfoldable pub point_of : Conic → Point → Direction → Verdict
+point_of h p t = from_base refusal h p (cond (is_direction t) (point (point_from h p t)) (refusal 7))
 
-abbrev pub LegalDirection : Conic → Point → Direction → Type 0
-LegalDirection h p t = Handed direction_limit t
-
-unfoldable pub point_answer : Conic → Point → Direction → Given Point
-point_answer h p t = from_base h p (cond (legal_direction h p t) (given (point_from h p t)) (refused 7))
-
-unfoldable pub direction_answer : Conic → Point → Point → Given Direction
-direction_answer h p q =
-    from_base h p (cond (is_target q) (cond (is_zero (G h q)) (given (direction_to h p q)) (refused 9)) (refused 8))
+unfoldable pub direction_of : Conic → Point → Point → Bearing
+direction_of h p q =
+    from_base no_direction h p
+    (cond (is_target q) (cond (is_zero (G h q)) (direction (direction_to h p q)) (no_direction 9)) (no_direction 8))
 
 -- the promise of direction to point
 pub record PointPromise (h : Conic) (p : Point) (t : Direction) (r : Reached) : Type 0 where
-  pub as_defined : reached r ≡ point_answer h p t
+  pub as_defined : reached r ≡ point_of h p t
 
 -- the promise of point to direction
 pub record DirectionPromise (h : Conic) (p q : Point) (r : Directed) : Type 0 where
-  pub as_defined : directed r ≡ direction_answer h p q
+  pub as_defined : directed r ≡ direction_of h p q

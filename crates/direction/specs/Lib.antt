@@ -1,3 +1,2 @@
 pub mod Direction
-pub mod Refusals
 pub mod Demand3

@@ -1,5 +1,5 @@
--- A common factor h of Y and W divides X, where pX² + gY² + qW² = 0 and p is squarefree: h² divides gY² + qW², so it
--- divides pX², and p has no square to give. Assumes nothing.
+-- A common factor h of Y and W divides X, where pX² + gY² + qW² = 0 and p is squarefree: h² divides gY² + qW², so it divides pX², and p
+-- has no square to give. Assumes nothing.
 use mathlib.Core.Path.{◌≡◌, subst₂}
 use mathlib.Core.List.{[], ◌∷◌}
 use lib.IntN.{ℤ, pos, neg_ℤ, ◌+ℤ◌, ◌*ℤ◌}

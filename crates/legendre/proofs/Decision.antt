@@ -1,14 +1,15 @@
--- The answer from what the functions find: by sign; else by what the search for a failing prime gives. Where it gives
--- nothing, the condition holds at every prime, so that the box holds a solution. Assumes nothing.
+-- The answer from what the functions find: by sign; else by what the search for a failing prime gives. Where it gives nothing, the
+-- condition holds at every prime, so that the box holds a solution. Assumes nothing.
 use mathlib.Core.Path.{◌≡◌, refl, sym}
+use mathlib.Core.Logic.{⊎_elim}
 use mathlib.Core.Bool.{Bool, true, false, cond}
 use Prim.Native.Nat.{ℕ, ◌≤◌}
 use native.Mathlib.Omega.{arith}
 use borrow.Author.Tests.{ltb-false}
 use lib.Dec.{ltb}
 use lib.IntN.{ℤ}
-use Rattle.basic.proofs.Tests.{by_test, refutes, when}
-use Rattle.legendre.specs.Equation.{Levelled, SolvableInBox}
+use Rattle.number.proofs.Least.{true_or_false}
+use Rattle.legendre.specs.Equation.{Levelled, OneSign, SolvableInBox}
 use Rattle.legendre.specs.Outcome.{is_one_sign, fails_at, prime_limit, least_failing, chosen, outcome_of}
 use Rattle.legendre.specs.Search.{least_below}
 use Rattle.legendre.specs.declared.least.Least.{Least}
@@ -17,7 +18,7 @@ use Rattle.legendre.specs.declared.outcome.Triple.{Triple}
 use Rattle.legendre.specs.declared.outcome.Outcome.{Outcome}
 use Rattle.legendre.specs.declared.outcome.Outcome.TheVariants.{Sign, Prime, Solution}
 use Rattle.legendre.proofs.Conditions.{none_fails}
-use Rattle.legendre.proofs.Answer.{one_sign_iff, solution_in_box}
+use Rattle.legendre.proofs.Answer.{outcome_sign, solution_in_box}
 
 abbrev pub answer_of : Least → Triple → Outcome
 answer_of (At l) t = Prime l
@@ -34,22 +35,27 @@ module _ (p g q : ℤ) where
 
   pub answer_sign : is_one_sign p g q ≡ true → Sign ≡ outcome_of p g q
   unfolding outcome_of
-  answer_sign e = when _ _ e
+  answer_sign e = sym (rw e)
 
   pub answer_mixed : is_one_sign p g q ≡ false → answer_of found (chosen p g q) ≡ outcome_of p g q
   unfolding outcome_of least_failing least_below
-  answer_mixed e =
-      sym (rw e (answer_by_test (ltb (least_failing p g q) (prime_limit p g q)) (least_failing p g q) (chosen p g q)))
+  answer_mixed e = sym (rw e (answer_by_test (ltb (least_failing p g q) (prime_limit p g q)) (least_failing p g q) (chosen p g q)))
 
-  limit_reached : found ≡ Nothing → prime_limit p g q ≤ least_failing p g q
-  unfolding least_failing least_below
-  limit_reached nothing =
-      by_test (ltb (least_failing p g q) (prime_limit p g q))
-      (λ e. let at : At (least_failing p g q) ≡ Nothing = rw e at nothing in
-      let clash : ◌≡◌ {A = ℕ} 0 1 = cc in
-      absurd (omega arith))
-      (ltb-false (least_failing p g q) (prime_limit p g q))
+  module _ (levelled : Levelled p g q) (mixed : is_one_sign p g q ≡ false) (nothing : found ≡ Nothing) where
+    not_one_sign : ¬ OneSign p g q
+    not_one_sign signs =
+        let by_sign : outcome_of p g q ≡ Sign = outcome_sign signs in
+        let by_search : answer_of found (chosen p g q) ≡ outcome_of p g q = answer_mixed mixed in
+        let solution : answer_of found (chosen p g q) ≡ Solution (chosen p g q) = rw nothing in
+        let clash : ◌≡◌ {A = ℕ} 0 1 = cc in
+        omega arith
 
-  pub solvable : Levelled p g q → is_one_sign p g q ≡ false → found ≡ Nothing → SolvableInBox p g q
-  solvable levelled mixed nothing =
-      solution_in_box levelled (refutes (one_sign_iff p g q) mixed) (none_fails levelled (limit_reached nothing))
+    limit_reached : prime_limit p g q ≤ least_failing p g q
+    unfolding least_failing least_below
+    limit_reached = ⊎_elim (λ e. absurd (at_and_nothing (rw e at nothing))) (ltb-false (least_failing p g q) (prime_limit p g q)) (true_or_false (ltb (least_failing p g q) (prime_limit p g q)))
+      where
+        at_and_nothing : At (least_failing p g q) ≡ Nothing → ⊥
+        at_and_nothing e = let clash : ◌≡◌ {A = ℕ} 0 1 = cc in omega arith
+
+    pub solvable : SolvableInBox p g q
+    solvable = solution_in_box levelled not_one_sign (none_fails levelled limit_reached)

@@ -1,19 +1,19 @@
--- The failing primes of one coefficient by trial division: the primes that were taken out of the size hold, and none
--- below the next divisor divides what is left. So the divisor is prime where it divides, and is the least prime left;
--- and where its square passes what is left, that is 1 or a prime. Assumes nothing.
+-- The failing primes of one coefficient by trial division: the primes that were taken out of the size hold, and none below the next
+-- divisor divides what is left. So the divisor is prime where it divides, and is the least prime left; and where its square passes
+-- what is left, that is 1 or a prime. Assumes nothing.
 use mathlib.Core.Path.{◌≡◌, sym, ap, subst, ◌∙◌}
 use mathlib.Core.Logic.{◌⊎◌, inl, inr, ⊎_elim, ◌↔◌, ◌≢◌}
 use mathlib.Core.Bool.{true, false, ◌&&◌, not, and-eq-true_iff}
 use Prim.Native.Nat.{ℕ, suc, ◌+◌, ◌*◌, ◌/◌, ◌%◌, ◌^◌, ◌∣◌, ◌≤◌, ◌<◌}
-use native.Mathlib.Nat.{le_refl, le_of_eq, le_antisymm, eq-or-lt_of_le, mul-one, mul-le-mul, le_of_dvd, pos_of_dvd_of_pos, dvd_refl, dvd_trans, dvd_of_mod-eq-zero, mod-eq-zero_of_dvd}
+use native.Mathlib.Nat.{le_refl, le_antisymm, eq-or-lt_of_le, mul-one, mul-le-mul, le_of_dvd, pos_of_dvd_of_pos, dvd_refl, dvd_trans, dvd_of_mod-eq-zero, mod-eq-zero_of_dvd}
 use native.Mathlib.Omega.{arith}
 use borrow.Author.Tests.{not-true, ltb-true, ltb-false}
 use lib.Dec.{ltb}
 use lib.IntN.{ℤ}
-use Rattle.basic.proofs.Tests.{not_true_of_false, false_of_not_true, by_test}
 use Rattle.number.specs.Divides.{divides}
 use Rattle.number.specs.Prime.{Prime, is_prime}
 use Rattle.number.specs.Residue.{is_square_modulo}
+use Rattle.number.proofs.Least.{not_true_of_false, false_of_not_true, true_or_false}
 use Rattle.number.proofs.Divides.{divides_iff, times_quotient, divides_of_multiple}
 use Rattle.number.proofs.Prime.{is_prime_iff, one_or_more, prime_not_one, prime_divides_product_ℕ}
 use Rattle.number.proofs.Square.{order_of_squares}
@@ -31,23 +31,23 @@ pub record Fails (a : ℕ) (n : ℤ) (l : ℕ) : Type 0 where
 
 pub fails_iff : (a : ℕ) (n : ℤ) (l : ℕ) → (fails a n l ≡ true) ↔ Fails a n l
 unfolding fails
-fails_iff a n l =
-    let inner = and-eq-true_iff (divides l a) (not (is_square_modulo l n)) in
-    let outer = and-eq-true_iff (divides l a && not (is_square_modulo l n)) (is_prime l) in (
-      λ e. record {
-        divisor = (divides_iff l).0 (inner.0 (outer.0 e).0).0;
-        no_square = not-true (is_square_modulo l n) (inner.0 (outer.0 e).0).1;
-        prime = is_prime_iff.0 (outer.0 e).1;
-      },
-      λ f. outer.1 (inner.1 ((divides_iff l).1 f.divisor, ap not f.no_square), is_prime_iff.1 f.prime),
-    )
+fails_iff a n l = (told, λ f. outer.1 (inner.1 ((divides_iff l).1 f.divisor, ap not f.no_square), is_prime_iff.1 f.prime))
+  where
+    inner : (divides l a && not (is_square_modulo l n) ≡ true) ↔ ((divides l a ≡ true) × (not (is_square_modulo l n) ≡ true))
+    inner = and-eq-true_iff (divides l a) (not (is_square_modulo l n))
+
+    outer : ((divides l a && not (is_square_modulo l n)) && is_prime l ≡ true) ↔ ((divides l a && not (is_square_modulo l n) ≡ true) × (is_prime l ≡ true))
+    outer = and-eq-true_iff (divides l a && not (is_square_modulo l n)) (is_prime l)
+
+    told : (divides l a && not (is_square_modulo l n)) && is_prime l ≡ true → Fails a n l
+    told e = record {
+      divisor = (divides_iff l).0 (inner.0 (outer.0 e).0).0;
+      no_square = not-true (is_square_modulo l n) (inner.0 (outer.0 e).0).1;
+      prime = is_prime_iff.0 (outer.0 e).1;
+    }
 
 pub fails_bounded : (a : ℕ) (n : ℤ) → 0 < a → Bounded (fails a n) (suc a)
 fails_bounded a n positive = record { below = λ l e. omega (arith, le_of_dvd positive ((fails_iff a n l).0 e).divisor) }
-
--- a prime that divides a prime is that prime
-prime_is : {k l : ℕ} → Prime k → Prime l → k ∣ l → k ≡ l
-prime_is {k} p prime h = ⊎_elim (λ one. absurd (prime_not_one p one)) (λ e. e) (prime.only_divisors k h)
 
 -- ---- the loop: what is left of the size, and the next divisor
 
@@ -55,7 +55,6 @@ abbrev pub divisor_limit : ℕ
 divisor_limit = 2 ^ 16 + 1
 
 pub record Trial (size : ℕ) (number : ℤ) (rest divisor : ℕ) : Type 0 where
-  pub size_positive : 0 < size
   pub positive : 0 < rest
   pub part : rest ∣ size
   pub from_two : 2 ≤ divisor
@@ -65,7 +64,6 @@ pub record Trial (size : ℕ) (number : ℤ) (rest divisor : ℕ) : Type 0 where
 
 pub trial_start : (size : ℕ) (number : ℤ) → 0 < size → Trial size number size 2
 trial_start size number positive = record {
-  size_positive = positive;
   positive = positive;
   part = dvd_refl size;
   from_two = le_refl 2;
@@ -74,28 +72,25 @@ trial_start size number positive = record {
   passed = λ l p h. inl h;
 }
 
-module _ {size : ℕ} {number : ℤ} {rest divisor : ℕ} (t : Trial size number rest divisor) where
+module _ {size : ℕ} {number : ℤ} {rest divisor : ℕ} (t : Trial size number rest divisor) (size_positive : 0 < size) where
   pub rest_at_most : rest ≤ size
-  rest_at_most = le_of_dvd t.size_positive t.part
+  rest_at_most = le_of_dvd size_positive t.part
 
   -- a prime of what is left, below its other primes, that fails
-  first_failing : (l : ℕ) → Prime l → l ∣ rest → ((k : ℕ) → Prime k → k ∣ rest → l ≤ k) →
-      is_square_modulo l number ≡ false → At l ≡ least_below (fails size number) (suc size)
+  first_failing : (l : ℕ) → Prime l → l ∣ rest → ((k : ℕ) → Prime k → k ∣ rest → l ≤ k) → is_square_modulo l number ≡ false → At l ≡ least_below (fails size number) (suc size)
   first_failing l prime h first no_square =
-      finds_equals (At l) (fails_bounded size number t.size_positive) (
-        (fails_iff size number l).1 (record { divisor = dvd_trans l h t.part; no_square = no_square; prime = prime }),
-        λ i below. false_of_not_true λ e.
-            let f = (fails_iff size number i).0 e in
-            ⊎_elim (λ d. omega (arith, first i f.prime d)) (not_true_of_false f.no_square)
-            (t.passed i f.prime f.divisor),
-      )
+      finds_equals (At l) (fails_bounded size number size_positive)
+      ((fails_iff size number l).1 (record { divisor = dvd_trans l h t.part; no_square = no_square; prime = prime }), λ i below. false_of_not_true (λ e. none i below ((fails_iff size number i).0 e)))
+    where
+      none : (i : ℕ) → i < l → Fails size number i → ⊥
+      none i below f = ⊎_elim (λ d. omega (arith, first i f.prime d)) (not_true_of_false f.no_square) (t.passed i f.prime f.divisor)
 
-  none_failing : ((l : ℕ) → Prime l → l ∣ rest → is_square_modulo l number ≡ true) →
-      Nothing ≡ least_below (fails size number) (suc size)
+  none_failing : ((l : ℕ) → Prime l → l ∣ rest → is_square_modulo l number ≡ true) → Nothing ≡ least_below (fails size number) (suc size)
   none_failing holds =
-      finds_equals Nothing (fails_bounded size number t.size_positive) λ i. false_of_not_true λ e.
-      let f = (fails_iff size number i).0 e in
-      not_true_of_false f.no_square (⊎_elim (holds i f.prime) (λ e. e) (t.passed i f.prime f.divisor))
+      finds_equals Nothing (fails_bounded size number size_positive) (λ i. false_of_not_true (λ e. none i ((fails_iff size number i).0 e)))
+    where
+      none : (i : ℕ) → Fails size number i → ⊥
+      none i f = not_true_of_false f.no_square (⊎_elim (holds i f.prime) (λ e. e) (t.passed i f.prime f.divisor))
 
   -- ---- the divisor divides what is left
   module _ (divided : rest % divisor ≡ 0) where
@@ -105,29 +100,23 @@ module _ {size : ℕ} {number : ℤ} {rest divisor : ℕ} (t : Trial size number
     pub divisor_prime : Prime divisor
     divisor_prime = record {
       at_least_two = t.from_two;
-      only_divisors = λ d h.
-          let positive : 0 < divisor = omega (arith, t.from_two) in
-          ⊎_elim inl
-          (λ two. inr (le_antisymm (le_of_dvd positive h) (at_least d t.tried two (dvd_trans d h divides_rest))))
-          (one_or_more positive h);
+      only_divisors = λ d h. ⊎_elim inl (λ two. inr (le_antisymm (le_of_dvd divisor_positive h) (at_least d t.tried two (dvd_trans d h divides_rest)))) (one_or_more divisor_positive h);
     }
+      where
+        divisor_positive : 0 < divisor
+        divisor_positive = omega arith
 
     pub divisor_fails : is_square_modulo divisor number ≡ false → At divisor ≡ least_below (fails size number) (suc size)
-    divisor_fails =
-        first_failing divisor divisor_prime divides_rest (λ k p h. at_least k t.tried p.at_least_two h)
+    divisor_fails = first_failing divisor divisor_prime divides_rest (λ k p h. at_least k t.tried p.at_least_two h)
 
     pub trial_taken : is_square_modulo divisor number ≡ true → Trial size number (rest / divisor) divisor
     trial_taken holds = record {
-      size_positive = t.size_positive;
       positive = pos_of_dvd_of_pos quotient_divides t.positive;
       part = dvd_trans (rest / divisor) quotient_divides t.part;
       from_two = t.from_two;
       divisor_bound = t.divisor_bound;
       tried = fewer_divisors quotient_divides t.tried;
-      passed = λ l p h. ⊎_elim
-          (λ d. of_divided l p
-          (prime_divides_product_ℕ divisor (rest / divisor) p (subst (λ (n : ℕ). l ∣ n) product d)))
-          inr (t.passed l p h);
+      passed = λ l p h. ⊎_elim (λ d. of_divided l p (prime_divides_product_ℕ divisor (rest / divisor) p (subst (λ (n : ℕ). l ∣ n) product d))) inr (t.passed l p h);
     }
       where
         product : rest ≡ divisor * (rest / divisor)
@@ -136,9 +125,8 @@ module _ {size : ℕ} {number : ℤ} {rest divisor : ℕ} (t : Trial size number
         quotient_divides : rest / divisor ∣ rest
         quotient_divides = divides_of_multiple (rest / divisor) divisor product
 
-        of_divided : (l : ℕ) → Prime l → (l ∣ divisor) ⊎ (l ∣ rest / divisor) →
-            (l ∣ rest / divisor) ⊎ (is_square_modulo l number ≡ true)
-        of_divided l p (inl h) = inr (rw (prime_is p divisor_prime h) holds)
+        of_divided : (l : ℕ) → Prime l → (l ∣ divisor) ⊎ (l ∣ rest / divisor) → (l ∣ rest / divisor) ⊎ (is_square_modulo l number ≡ true)
+        of_divided l p (inl h) = ⊎_elim (λ one. absurd (prime_not_one p one)) (λ e. inr (rw e holds)) (divisor_prime.only_divisors l h)
         of_divided l p (inr h) = inl h
 
   -- ---- it does not
@@ -147,7 +135,6 @@ module _ {size : ℕ} {number : ℤ} {rest divisor : ℕ} (t : Trial size number
 
   pub trial_next : divisor < 2 ^ 16 → rest % divisor ≢ 0 → Trial size number rest (divisor + (1 + divisor % 2))
   trial_next small apart = record {
-    size_positive = t.size_positive;
     positive = t.positive;
     part = t.part;
     from_two = omega (arith, t.from_two);
@@ -163,10 +150,10 @@ module _ {size : ℕ} {number : ℤ} {rest divisor : ℕ} (t : Trial size number
 
       none : (k : ℕ) → 2 ≤ k → k < divisor + (1 + divisor % 2) → k ∣ rest → ⊥
       none k two below h =
-          by_test (ltb k divisor)
+          ⊎_elim
           (λ e. t.tried.none k two (ltb-true k divisor e) h)
-          (λ e. ⊎_elim (λ same. apart (mod-eq-zero_of_dvd divisor (rw same h))) (λ more. next_even k more below h)
-          (eq-or-lt_of_le (ltb-false k divisor e)))
+          (λ e. ⊎_elim (λ same. apart (mod-eq-zero_of_dvd divisor (rw same h))) (λ more. next_even k more below h) (eq-or-lt_of_le (ltb-false k divisor e)))
+          (true_or_false (ltb k divisor))
 
   -- ---- its square is above what is left
   pub none_left : rest ≡ 1 → Nothing ≡ least_below (fails size number) (suc size)
@@ -182,12 +169,8 @@ module _ {size : ℕ} {number : ℤ} {rest divisor : ℕ} (t : Trial size number
         all : (d : ℕ) → 2 ≤ d → d ∣ rest → d ≡ rest
         all d two h =
             ⊎_elim
-            (λ one. sym (product ∙ rw one (mul-one d)))
-            (λ more. absurd (omega (
-              arith,
-              product,
-              mul-le-mul (at_least d t.tried two h) (at_least (rest / d) t.tried more cofactor),
-            )))
+            (λ one. sym (product ∙ ap (λ (n : ℕ). d * n) one ∙ mul-one d))
+            (λ more. absurd (omega (arith, product, mul-le-mul (at_least d t.tried two h) (at_least (rest / d) t.tried more cofactor))))
             (one_or_more t.positive cofactor)
           where
             product : rest ≡ d * (rest / d)
@@ -197,7 +180,7 @@ module _ {size : ℕ} {number : ℤ} {rest divisor : ℕ} (t : Trial size number
             cofactor = divides_of_multiple (rest / d) d product
 
     pub rest_fails : is_square_modulo rest number ≡ false → At rest ≡ least_below (fails size number) (suc size)
-    rest_fails = first_failing rest rest_prime (dvd_refl rest) (λ k p h. le_of_eq (sym (prime_is p rest_prime h)))
+    rest_fails = first_failing rest rest_prime (dvd_refl rest) (λ k p h. ⊎_elim (λ one. absurd (prime_not_one p one)) (λ e. omega arith) (rest_prime.only_divisors k h))
 
     pub rest_holds : is_square_modulo rest number ≡ true → Nothing ≡ least_below (fails size number) (suc size)
-    rest_holds holds = none_failing (λ l p h. rw (prime_is p rest_prime h) holds)
+    rest_holds holds = none_failing (λ l p h. ⊎_elim (λ one. absurd (prime_not_one p one)) (λ e. rw e holds) (rest_prime.only_divisors l h))

@@ -1,6 +1,5 @@
--- Holzer's bound: where there is a solution, the box holds one. By the descent W² ≤ pg, and the equation then bounds
--- X and Y; the sizes of the three numbers solve the equation too. The other patterns of signs are turned into this
--- one. Assumes nothing.
+-- Holzer's bound: where there is a solution, the box holds one. By the descent W² ≤ pg, and the equation then bounds X and Y;
+-- the sizes of the three numbers solve the equation too. The other patterns of signs are turned into this one. Assumes nothing.
 use mathlib.Core.Path.{◌≡◌, ap, ◌∙◌}
 use mathlib.Core.List.{[], ◌∷◌}
 use Prim.Native.Nat.{ℕ, ◌+◌, ◌*◌, ◌≤◌, ◌<◌}
@@ -24,21 +23,20 @@ moved a b c x y w e = combine (pos 1 ⊠ e) (by_ring (a ∷ b ∷ c ∷ x ∷ y 
 
 -- ax + by = cw and w ≤ ab bound x by bc
 term_within : (a b c x y w : ℕ) → 0 < a → a * x + b * y ≡ c * w → w ≤ a * b → x ≤ b * c
-term_within a b c x y w a>0 e h =
-    let more : c * w ≤ c * (a * b) = mul-le-mul_left c h in
-    let products : a * x ≤ a * (b * c) = omega arith in
-    le_of_mul-le-mul_left products a>0
+term_within a b c x y w a>0 e h = le_of_mul-le-mul_left (products (mul-le-mul_left c h)) a>0
+  where
+    products : c * w ≤ c * (a * b) → a * x ≤ a * (b * c)
+    products h = omega arith
 
 size_of_product : (a c : ℕ) → nat_abs (pos a *ℤ neg_ℤ (pos c)) ≡ a * c
-size_of_product a c = simp (nat_abs-*, nat_abs_neg)
+size_of_product a c = nat_abs-* (pos a) (neg_ℤ (pos c)) ∙ ap (λ (n : ℕ). a * n) (nat_abs_neg (pos c))
 
 module _ (a b c : ℕ) (a>0 : 1 ≤ a) (b>0 : 1 ≤ b) where
   balance : (x y w : ℤ) → form (pos a) (pos b) (neg_ℤ (pos c)) x y w ≡ pos 0
       → a * (nat_abs x * nat_abs x) + b * (nat_abs y * nat_abs y) ≡ c * (nat_abs w * nat_abs w)
   balance x y w e =
       ap nat_abs
-      (moved (pos a) (pos b) (pos c) (pos (nat_abs x)) (pos (nat_abs y)) (pos (nat_abs w))
-      (form_of_sizes (pos a) (pos b) (neg_ℤ (pos c)) x y w ∙ e))
+      (moved (pos a) (pos b) (pos c) (pos (nat_abs x)) (pos (nat_abs y)) (pos (nat_abs w)) (form_of_sizes (pos a) (pos b) (neg_ℤ (pos c)) x y w ∙ e))
 
   boxed : Bounded a b (neg_ℤ (pos c)) → SolvableInBox (pos a) (pos b) (neg_ℤ (pos c))
   boxed h =
@@ -48,35 +46,34 @@ module _ (a b c : ℕ) (a>0 : 1 ≤ a) (b>0 : 1 ≤ b) where
         w = h.size;
         solution = record {
           solution = record {
-            equation =
-                form_of_sizes (pos a) (pos b) (neg_ℤ (pos c)) h.point.x h.point.y (pos h.size)
-                ∙ h.point.equation;
+            equation = form_of_sizes (pos a) (pos b) (neg_ℤ (pos c)) h.point.x h.point.y (pos h.size) ∙ h.point.equation;
             not_all_zero = λ zeros. ne_of_gt h.positive (ap nat_abs zeros.2);
           };
           x_within = rw (size_of_product b c) (term_within a b c _ _ _ a>0 sizes h.at_most);
-          y_within =
-              rw (size_of_product a c)
-              (term_within b a c _ _ _ b>0 (add_comm _ _ ∙ sizes) (rw (mul_comm b a) h.at_most));
+          y_within = rw (size_of_product a c) (term_within b a c _ _ _ b>0 (add_comm _ _ ∙ sizes) (rw (mul_comm b a) h.at_most));
           w_within = h.at_most;
         };
       }
     where
-      sizes : let x = nat_abs h.point.x in let y = nat_abs h.point.y in
-          a * (x * x) + b * (y * y) ≡ c * (h.size * h.size)
+      sizes : a * (nat_abs h.point.x * nat_abs h.point.x) + b * (nat_abs h.point.y * nat_abs h.point.y) ≡ c * (h.size * h.size)
       sizes = balance h.point.x h.point.y (pos h.size) h.point.equation
 
   -- W is not 0: else X and Y would be
   last_positive : (s : Solvable (pos a) (pos b) (neg_ℤ (pos c))) → 0 < nat_abs s.w
   last_positive s = pos_of_ne-zero (λ e. s.solution.not_all_zero (all_zero e))
     where
+      sizes : a * (nat_abs s.x * nat_abs s.x) + b * (nat_abs s.y * nat_abs s.y) ≡ c * (nat_abs s.w * nat_abs s.w)
+      sizes = balance s.x s.y s.w s.solution.equation
+
+      right_zero : nat_abs s.w ≡ 0 → c * (nat_abs s.w * nat_abs s.w) ≡ 0
+      right_zero e = ap (λ (n : ℕ). c * (n * n)) e ∙ mul-zero c
+
       all_zero : nat_abs s.w ≡ 0 → (s.x ≡ pos 0) × (s.y ≡ pos 0) × (s.w ≡ pos 0)
-      all_zero e =
-          let sizes = balance s.x s.y s.w s.solution.equation in
-          let none : c * (nat_abs s.w * nat_abs s.w) ≡ 0 = rw e (mul-zero c) in (
-            zero_square_term a s.x a>0 (omega (arith, sizes)),
-            zero_square_term b s.y b>0 (omega (arith, sizes)),
-            nat_abs_zero s.w e,
-          )
+      all_zero e = (
+        zero_square_term a s.x a>0 (omega (arith, sizes, right_zero e)),
+        zero_square_term b s.y b>0 (omega (arith, sizes, right_zero e)),
+        nat_abs_zero s.w e,
+      )
 
 -- what turning and negating keep
 abbrev Boxed : ℤ → ℤ → ℤ → Type 0
@@ -92,8 +89,7 @@ boxed_kept =
 here : (a b c : ℕ) → 1 ≤ a → 1 ≤ b → 1 ≤ c → Boxed (pos a) (pos b) (neg_ℤ (pos c))
 here a b c a>0 b>0 c>0 l s =
     boxed a b c a>0 b>0
-    (descent a b c a>0 b>0 (squarefree_same_size (nat_abs_neg (pos c)) l.squarefree_q) (nat_abs s.w)
-    (last_positive a b c a>0 b>0 s) point)
+    (descent a b c a>0 b>0 (squarefree_same_size (nat_abs_neg (pos c)) l.squarefree_q) (nat_abs s.w) (last_positive a b c a>0 b>0 s) point)
   where
     point : Point (pos a) (pos b) (neg_ℤ (pos c)) (pos (nat_abs s.w))
     point =

@@ -1,7 +1,6 @@
--- Legendre's theorem. A solution makes the condition hold at each prime. The other way round, the signs are brought
--- to p, g > 0 > q; roots modulo the primes of a squarefree number make one modulo the number, and three roots make a
--- solution. Assumes nothing.
-use mathlib.Core.Path.{◌≡◌, refl, sym, ◌∙◌}
+-- Legendre's theorem. A solution makes the condition hold at each prime. The other way round, the signs are brought to p, g > 0 > q;
+-- roots modulo the primes of a squarefree number make one modulo the number, and three roots make a solution. Assumes nothing.
+use mathlib.Core.Path.{◌≡◌, refl, sym, ap, subst, ◌∙◌}
 use mathlib.Core.List.{[], ◌∷◌}
 use Prim.Native.Nat.{ℕ, ◌≤◌}
 use lib.IntN.{ℤ, pos, neg_ℤ, nat_abs, ◌-ℤ◌, ◌*ℤ◌, *ℤ_comm}
@@ -25,9 +24,8 @@ use Rattle.legendre.proofs.Patterns.{Kept, by_pattern, levelled_turned, solvable
 abbrev size_of_root : {m : ℕ} {n : ℤ} → SquareModulo m n → ℕ
 size_of_root s = nat_abs s.root
 
-size_is_root : {m : ℕ} {n : ℤ} (k : ℤ) → n ≡ k → (s : SquareModulo m n) →
-    pos m ∣ℤ (pos (size_of_root s) *ℤ pos (size_of_root s) -ℤ k)
-size_is_root k e s = rw (square_is s.root, e) at s.is_root
+size_is_root : {m : ℕ} {n : ℤ} (k : ℤ) → n ≡ k → (s : SquareModulo m n) → pos m ∣ℤ (pos (size_of_root s) *ℤ pos (size_of_root s) -ℤ k)
+size_is_root {m} {n} k e s = subst (λ (d : ℤ). pos m ∣ℤ d) (ap (λ (x : ℤ). x -ℤ n) (square_is s.root) ∙ ap (λ (x : ℤ). pos (size_of_root s) *ℤ pos (size_of_root s) -ℤ x) e) s.is_root
 
 -- two signs in a product cancel
 minus_times_minus : (x y : ℤ) → neg_ℤ (x *ℤ neg_ℤ y) ≡ x *ℤ y
@@ -40,15 +38,13 @@ Sufficient p g q = Levelled p g q → ((l : ℕ) → Prime l → ConditionAt l p
 kept : Kept Sufficient
 unfolding Sufficient
 kept = record {
-  turn = λ there h condition.
-      solvable_turned (solvable_turned (there (levelled_turned h) (λ l prime. condition_turned (condition l prime))));
-  negate = λ there h condition.
-      solvable_negated (there (levelled_negated h) (λ l prime. condition_negated (condition l prime)));
+  turn = λ there h condition. solvable_turned (solvable_turned (there (levelled_turned h) (λ l prime. condition_turned (condition l prime))));
+  negate = λ there h condition. solvable_negated (there (levelled_negated h) (λ l prime. condition_negated (condition l prime)));
 }
 
 sufficient : (a b c : ℕ) → 1 ≤ a → 1 ≤ b → 1 ≤ c → Sufficient (pos a) (pos b) (neg_ℤ (pos c))
 unfolding Sufficient
-sufficient a b c h_a h_b h_c h condition = solvable_by_roots a b c _ _ _ h_a h_b h_c record {
+sufficient a b c h_a h_b h_c h condition = solvable_by_roots a b c (size_of_root root_a) (size_of_root root_b) (size_of_root root_c) h_a h_b h_c record {
   coprime_ab = h.coprime_pg;
   coprime_bc = coprime_same_sizes refl (nat_abs_neg (pos c)) h.coprime_gq;
   coprime_ca = coprime_same_sizes (nat_abs_neg (pos c)) refl h.coprime_qp;

@@ -1,5 +1,5 @@
--- Products of machine numbers whose factors have no bound of their own: where the product is at most 2⁶² in size it
--- fits, and so does its negation, and the machine's results are the products themselves. Assumes nothing.
+-- Products of machine numbers whose factors have no bound of their own: where the product is at most 2⁶² in size it fits, and so does
+-- its negation, and the machine's results are the products themselves. Assumes nothing.
 use mathlib.Core.Path.{◌≡◌, ap, ap₂, ◌∙◌}
 use Prim.Native.Nat.{◌^◌, ◌≤◌}
 use lib.IntN.{ℤ, pos, neg_ℤ, nat_abs, ◌+ℤ◌, ◌*ℤ◌, ◌-ℤ◌, +ℤ_idl}

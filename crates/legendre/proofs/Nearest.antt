@@ -1,18 +1,15 @@
--- Choosing a number by parity and by size: for whole K, M and w > 0 some Z, f, B have M = 2f + Z², K = B + Z·w and
--- |B| ≤ w. Z must have M's parity, and such numbers are 2 apart, so one of the multiples Z·w is within w of K.
--- Assumes nothing.
-use mathlib.Core.Path.{◌≡◌, ap}
+-- Choosing a number by parity and by size: for whole K, M and w > 0 some Z, f, B have M = 2f + Z², K = B + Z·w and |B| ≤ w.
+-- Z must have M's parity, and such numbers are 2 apart, so one of the multiples Z·w is within w of K. Assumes nothing.
+use mathlib.Core.Path.{◌≡◌, sym, ap, ◌∙◌}
 use mathlib.Core.List.{[], ◌∷◌}
-use Prim.Native.Nat.{ℕ, ◌+◌, ◌*◌, ◌-◌, ◌≤◌, ◌<◌}
+use Prim.Native.Nat.{ℕ, suc, ◌+◌, ◌*◌, ◌-◌, ◌/◌, ◌%◌, ◌≤◌, ◌<◌}
+use native.Mathlib.Nat.{mod-lt, div-add-mod}
 use native.Mathlib.Decide.{dec_le}
 use native.Mathlib.Omega.{arith}
-use lib.IntN.{ℤ, pos, negsuc, neg_ℤ, nat_abs, ◌+ℤ◌, ◌-ℤ◌, ◌*ℤ◌}
+use lib.IntN.{ℤ, pos, negsuc, neg_ℤ, nat_abs, ◌+ℤ◌, ◌-ℤ◌, ◌*ℤ◌, +ℤ-neg_ℤ_cancel}
 use Rattle.whole.proofs.Ring.{by_ring, reify}
 use Rattle.whole.proofs.Combination.{combine, ◌⊞◌, ◌⊠◌}
 use Rattle.whole.proofs.Size.{nat_abs_neg}
-use Rattle.number.specs.Divides.{◌∣ℤ◌}
-use Rattle.number.specs.Remainder.{remainder_of}
-use Rattle.number.proofs.Congruence.{remainder_below, remainder_congruent}
 use Rattle.number.proofs.Square.{own_square}
 
 -- m as twice a number and a rest of 0 or 1
@@ -22,18 +19,22 @@ record Halved (m : ℤ) : Type 0 where
   is_twice : m ≡ pos 2 *ℤ half +ℤ rest
   rest_is_bit : rest *ℤ rest ≡ rest
 
-halved : (m : ℤ) → Halved m
-halved m =
-    let even = (remainder_congruent {n = 2} (omega arith) m).difference in
-    let r = remainder_of 2 m in
+halved_negated : (m : ℤ) → Halved m → Halved (neg_ℤ m)
+halved_negated m h =
     record {
-      half = neg_ℤ even.quotient;
-      rest = pos r;
-      is_twice =
-          combine (negsuc 0 ⊠ even.multiple)
-          (by_ring (m ∷ pos r ∷ even.quotient ∷ []) (search reify depth 64 fits 9999) tt);
-      rest_is_bit = ap pos (own_square r (remainder_below (omega arith) m));
+      half = neg_ℤ (h.half +ℤ h.rest);
+      rest = h.rest;
+      is_twice = combine (negsuc 0 ⊠ h.is_twice) (by_ring (m ∷ h.half ∷ h.rest ∷ []) (search reify depth 64 fits 9999) tt);
+      rest_is_bit = h.rest_is_bit;
     }
+
+halved_natural : (n : ℕ) → Halved (pos n)
+halved_natural n =
+    record { half = pos (n / 2); rest = pos (n % 2); is_twice = ap pos (omega arith); rest_is_bit = ap pos (own_square (n % 2) (omega arith)) }
+
+halved : (m : ℤ) → Halved m
+halved (pos n) = halved_natural n
+halved (negsuc n) = halved_negated (pos (suc n)) (halved_natural (suc n))
 
 -- k as a multiple of 2w and a rest within w
 record Nearest (w k : ℤ) : Type 0 where
@@ -42,35 +43,40 @@ record Nearest (w k : ℤ) : Type 0 where
   is_near : k ≡ pos 2 *ℤ (times *ℤ w) +ℤ rest
   within : nat_abs rest ≤ nat_abs w
 
-nearest : (w : ℕ) (k : ℤ) → 0 < w → Nearest (pos w) k
-nearest w k w>0 = by_rest (dec_le r w)
+nearest_negated : (w k : ℤ) → Nearest w k → Nearest w (neg_ℤ k)
+nearest_negated w k h =
+    record {
+      times = neg_ℤ h.times;
+      rest = neg_ℤ h.rest;
+      is_near = combine (negsuc 0 ⊠ h.is_near) (by_ring (k ∷ w ∷ h.times ∷ h.rest ∷ []) (search reify depth 64 fits 9999) tt);
+      within = rw (nat_abs_neg h.rest) h.within;
+    }
+
+nearest_natural : (w n : ℕ) → 0 < w → Nearest (pos w) (pos n)
+nearest_natural w n w>0 = by_rest (dec_le (n % (2 * w)) w)
   where
-    r : ℕ
-    r = remainder_of (2 * w) k
+    split : 2 * w * (n / (2 * w)) + n % (2 * w) ≡ n
+    split = div-add-mod n (2 * w)
 
-    over : pos (2 * w) ∣ℤ (pos r -ℤ k)
-    over = (remainder_congruent {n = 2 * w} (omega arith) k).difference
+    below : n % (2 * w) < 2 * w
+    below = mod-lt n (omega arith)
 
-    by_rest : Dec (r ≤ w) → Nearest (pos w) k
-    by_rest (yes small) = record {
-      times = neg_ℤ over.quotient;
-      rest = pos r;
-      is_near =
-          combine (negsuc 0 ⊠ over.multiple)
-          (by_ring (k ∷ pos w ∷ pos r ∷ over.quotient ∷ []) (search reify depth 64 fits 9999) tt);
-      within = small;
-    }
-    by_rest (no large) = record {
-      times = pos 1 -ℤ over.quotient;
-      rest = neg_ℤ (pos (2 * w - r));
-      is_near =
-          combine (negsuc 0 ⊠ over.multiple ⊞ ap pos rest_is)
-          (by_ring (k ∷ pos w ∷ pos r ∷ pos (2 * w - r) ∷ over.quotient ∷ []) (search reify depth 64 fits 9999) tt);
-      within = rw (nat_abs_neg (pos (2 * w - r))) (omega arith);
-    }
-      where
-        rest_is : r + (2 * w - r) ≡ 2 * w
-        rest_is = omega (arith, remainder_below {n = 2 * w} (omega arith) k)
+    by_rest : Dec (n % (2 * w) ≤ w) → Nearest (pos w) (pos n)
+    by_rest (yes small) =
+        record { times = pos (n / (2 * w)); rest = pos (n % (2 * w)); is_near = ap pos (omega (arith, split)); within = small }
+    by_rest (no large) =
+        record {
+          times = pos (suc (n / (2 * w)));
+          rest = neg_ℤ (pos (2 * w - n % (2 * w)));
+          is_near =
+              sym (+ℤ-neg_ℤ_cancel (pos n) (pos (2 * w - n % (2 * w))))
+              ∙ ap (λ (s : ℕ). pos s -ℤ pos (2 * w - n % (2 * w))) (omega (arith, split, below));
+          within = rw (nat_abs_neg (pos (2 * w - n % (2 * w)))) (omega arith);
+        }
+
+nearest : (w : ℕ) (k : ℤ) → 0 < w → Nearest (pos w) k
+nearest w (pos n) w>0 = nearest_natural w n w>0
+nearest w (negsuc n) w>0 = nearest_negated (pos w) (pos (suc n)) (nearest_natural w (suc n) w>0)
 
 pub record Choice (w K M : ℤ) : Type 0 where
   pub Z : ℤ
@@ -89,9 +95,7 @@ chosen w K M h n =
       same_parity =
           combine (pos 1 ⊠ h.is_twice ⊞ negsuc 0 ⊠ h.rest_is_bit)
           (by_ring (M ∷ h.half ∷ h.rest ∷ n.times ∷ []) (search reify depth 64 fits 9999) tt);
-      near =
-          combine n.is_near
-          (by_ring (K ∷ w ∷ h.rest ∷ n.times ∷ n.rest ∷ []) (search reify depth 64 fits 9999) tt);
+      near = combine (pos 1 ⊠ n.is_near) (by_ring (K ∷ w ∷ h.rest ∷ n.times ∷ n.rest ∷ []) (search reify depth 64 fits 9999) tt);
       within = n.within;
     }
 

@@ -1,7 +1,6 @@
--- What turning the triple (p, g, q) to (g, q, p) keeps, and what negating all three keeps: being levelled, being
--- solvable (in the box too), the condition at a prime. Three numbers not 0 and not all of one sign can so be brought
--- to p, g > 0 > q. Assumes nothing.
-use mathlib.Core.Path.{◌≡◌, refl, sym, ◌∙◌}
+-- What turning the triple (p, g, q) to (g, q, p) keeps, and what negating all three keeps: being levelled, being solvable (in the box
+-- too), the condition at a prime. Three numbers not 0 and not all of one sign can so be brought to p, g > 0 > q. Assumes nothing.
+use mathlib.Core.Path.{◌≡◌, refl, sym, ap, subst, ◌∙◌}
 use mathlib.Core.Logic.{inl, inr, ◌≢◌}
 use mathlib.Core.List.{[], ◌∷◌}
 use Prim.Native.Nat.{ℕ, zero, suc, ◌≤◌}
@@ -10,7 +9,6 @@ use lib.Dec.{lt→ltb}
 use lib.IntN.{ℤ, pos, negsuc, neg_ℤ, ◌*ℤ◌, *ℤ_comm, neg_ℤ-neg_ℤ}
 use Rattle.whole.proofs.Size.{nat_abs_neg}
 use Rattle.whole.proofs.Ring.{by_ring, reify}
-use Rattle.whole.proofs.Combination.{combine, ◌⊠◌}
 use Rattle.number.specs.Divides.{◌∣ℤ◌}
 use Rattle.number.specs.Gcd.{Coprime}
 use Rattle.number.specs.Residue.{SquareModulo}
@@ -18,7 +16,7 @@ use Rattle.number.specs.Squarefree.{Squarefree}
 use Rattle.number.proofs.Divides.{∣ℤ_negation}
 use Rattle.number.proofs.Gcd.{coprime_same_sizes}
 use Rattle.number.proofs.Squarefree.{squarefree_not_zero, squarefree_same_size}
-use Rattle.legendre.specs.Equation.{Levelled, form, Solution, Solvable, SolvableInBox, OneSign, Positive, Negative, ConditionAt}
+use Rattle.legendre.specs.Equation.{Levelled, form, Solution, Solvable, BoxSolution, SolvableInBox, OneSign, Positive, Negative, ConditionAt}
 
 -- ---- turning
 
@@ -46,23 +44,24 @@ solvable_turned h = record { x = h.y; y = h.w; w = h.x; solution = solution_turn
 
 -- the box turns with the triple
 pub in_box_turned : {p g q : ℤ} → SolvableInBox p g q → SolvableInBox g q p
-in_box_turned {p} {g} {q} h =
-    let s = h.solution in
-    record {
-      x = h.y;
-      y = h.w;
-      w = h.x;
-      solution = record {
-        solution = solution_turned s.solution;
-        x_within = rw (*ℤ_comm q p) s.y_within;
-        y_within = rw (*ℤ_comm g p) s.w_within;
-        w_within = s.x_within;
-      };
-    }
+in_box_turned {p} {g} {q} h = record {
+  x = h.y;
+  y = h.w;
+  w = h.x;
+  solution = record {
+    solution = solution_turned s.solution;
+    x_within = rw (*ℤ_comm q p) s.y_within;
+    y_within = rw (*ℤ_comm g p) s.w_within;
+    w_within = s.x_within;
+  };
+}
+  where
+    s : BoxSolution p g q h.x h.y h.w
+    s = h.solution
 
 -- the product of the other two, in the other order
 pub square_commuted : {l : ℕ} (a b : ℤ) → SquareModulo l (neg_ℤ (a *ℤ b)) → SquareModulo l (neg_ℤ (b *ℤ a))
-square_commuted a b h = rw (*ℤ_comm b a) h
+square_commuted {l} a b = subst (λ (m : ℤ). SquareModulo l (neg_ℤ m)) (*ℤ_comm a b)
 
 pub condition_turned : {l : ℕ} {p g q : ℤ} → ConditionAt l p g q → ConditionAt l g q p
 condition_turned {l} {p} {g} {q} h = record {
@@ -89,55 +88,63 @@ levelled_negated h = record {
   coprime_qp = coprime_negated h.coprime_qp;
 }
 
-module _ {p g q x y w : ℤ} where
-  -- the equation with all three negated has the same solutions
-  pub solution_negated : Solution (neg_ℤ p) (neg_ℤ g) (neg_ℤ q) x y w → Solution p g q x y w
-  solution_negated h = record {
-    equation =
-        combine (negsuc 0 ⊠ h.equation)
-        (by_ring (p ∷ g ∷ q ∷ x ∷ y ∷ w ∷ []) (search reify depth 64 fits 9999) tt);
-    not_all_zero = h.not_all_zero;
-  }
+form_negated : (p g q x y w : ℤ) → form (neg_ℤ p) (neg_ℤ g) (neg_ℤ q) x y w ≡ neg_ℤ (form p g q x y w)
+form_negated p g q x y w = by_ring (p ∷ g ∷ q ∷ x ∷ y ∷ w ∷ []) (search reify depth 64 fits 9999) tt
 
-  negated_solution : Solution p g q x y w → Solution (neg_ℤ p) (neg_ℤ g) (neg_ℤ q) x y w
-  negated_solution h = record {
-    equation =
-        combine (negsuc 0 ⊠ h.equation)
-        (by_ring (p ∷ g ∷ q ∷ x ∷ y ∷ w ∷ []) (search reify depth 64 fits 9999) tt);
-    not_all_zero = h.not_all_zero;
-  }
+-- the equation with all three negated has the same solutions
+pub solution_negated : {p g q x y w : ℤ} → Solution (neg_ℤ p) (neg_ℤ g) (neg_ℤ q) x y w → Solution p g q x y w
+solution_negated {p} {g} {q} {x} {y} {w} h = record {
+  equation = sym (neg_ℤ-neg_ℤ (form p g q x y w)) ∙ ap neg_ℤ (sym (form_negated p g q x y w) ∙ h.equation);
+  not_all_zero = h.not_all_zero;
+}
 
 pub solvable_negated : {p g q : ℤ} → Solvable (neg_ℤ p) (neg_ℤ g) (neg_ℤ q) → Solvable p g q
 solvable_negated h = record { x = h.x; y = h.y; w = h.w; solution = solution_negated h.solution }
 
 pub negated_solvable : {p g q : ℤ} → Solvable p g q → Solvable (neg_ℤ p) (neg_ℤ g) (neg_ℤ q)
-negated_solvable h = record { x = h.x; y = h.y; w = h.w; solution = negated_solution h.solution }
+negated_solvable {p} {g} {q} s =
+    record {
+      x = s.x;
+      y = s.y;
+      w = s.w;
+      solution = record {
+        equation = form_negated p g q s.x s.y s.w ∙ ap neg_ℤ s.solution.equation;
+        not_all_zero = s.solution.not_all_zero;
+      };
+    }
 
 -- minus the product of the other two is as it was
 pub product_negated : (a b : ℤ) → neg_ℤ a *ℤ neg_ℤ b ≡ a *ℤ b
 product_negated a b = by_ring (a ∷ b ∷ []) (search reify depth 64 fits 9999) tt
 
 pub in_box_negated : {p g q : ℤ} → SolvableInBox (neg_ℤ p) (neg_ℤ g) (neg_ℤ q) → SolvableInBox p g q
-in_box_negated {p} {g} {q} h =
-    let s = h.solution in
-    record {
-      x = h.x;
-      y = h.y;
-      w = h.w;
-      solution = record {
-        solution = solution_negated s.solution;
-        x_within = rw (product_negated g q) at s.x_within;
-        y_within = rw (product_negated p q) at s.y_within;
-        w_within = rw (product_negated p g) at s.w_within;
-      };
-    }
+in_box_negated {p} {g} {q} h = record {
+  x = h.x;
+  y = h.y;
+  w = h.w;
+  solution = record {
+    solution = solution_negated s.solution;
+    x_within = rw (← product_negated g q) s.x_within;
+    y_within = rw (← product_negated p q) s.y_within;
+    w_within = rw (← product_negated p g) s.w_within;
+  };
+}
+  where
+    s : BoxSolution (neg_ℤ p) (neg_ℤ g) (neg_ℤ q) h.x h.y h.w
+    s = h.solution
+
+divides_negated : {a b : ℤ} → a ∣ℤ neg_ℤ b → a ∣ℤ b
+divides_negated {a} {b} h = subst (λ (n : ℤ). a ∣ℤ n) (neg_ℤ-neg_ℤ b) (∣ℤ_negation h)
 
 pub condition_negated : {l : ℕ} {p g q : ℤ} → ConditionAt l p g q → ConditionAt l (neg_ℤ p) (neg_ℤ g) (neg_ℤ q)
 condition_negated {l} {p} {g} {q} h = record {
-  at_p = λ d. rw (product_negated g q) (h.at_p (rw neg_ℤ-neg_ℤ at (∣ℤ_negation d)));
-  at_g = λ d. rw (product_negated p q) (h.at_g (rw neg_ℤ-neg_ℤ at (∣ℤ_negation d)));
-  at_q = λ d. rw (product_negated p g) (h.at_q (rw neg_ℤ-neg_ℤ at (∣ℤ_negation d)));
+  at_p = λ d. same g q (h.at_p (divides_negated d));
+  at_g = λ d. same p q (h.at_g (divides_negated d));
+  at_q = λ d. same p g (h.at_q (divides_negated d));
 }
+  where
+    same : (a b : ℤ) → SquareModulo l (neg_ℤ (a *ℤ b)) → SquareModulo l (neg_ℤ (neg_ℤ a *ℤ neg_ℤ b))
+    same a b = subst (λ (m : ℤ). SquareModulo l (neg_ℤ m)) (sym (product_negated a b))
 
 -- ---- the signs
 
@@ -162,8 +169,7 @@ pub record Kept (P : ℤ → ℤ → ℤ → Type 0) : Type 0 where
   pub negate : {p g q : ℤ} → P (neg_ℤ p) (neg_ℤ g) (neg_ℤ q) → P p g q
 
 -- if it holds where p, g > 0 > q, it holds of every levelled triple that is not of one sign
-module _ (P : ℤ → ℤ → ℤ → Type 0) (kept : Kept P)
-    (here : (a b c : ℕ) → 1 ≤ a → 1 ≤ b → 1 ≤ c → P (pos a) (pos b) (neg_ℤ (pos c))) where
+module _ (P : ℤ → ℤ → ℤ → Type 0) (kept : Kept P) (here : (a b c : ℕ) → 1 ≤ a → 1 ≤ b → 1 ≤ c → P (pos a) (pos b) (neg_ℤ (pos c))) where
   first_two_positive : (a b c : ℕ) → P (pos (suc a)) (pos (suc b)) (negsuc c)
   first_two_positive a b c = here (suc a) (suc b) (suc c) (omega arith) (omega arith) (omega arith)
 

@@ -1,8 +1,8 @@
--- No solution where the three coefficients have one sign: with positive coefficients the form is a sum of terms that
--- are not negative, so at a zero of it each term is 0; negative ones are negated first. Assumes nothing.
+-- No solution where the three coefficients have one sign: with positive coefficients the form is a sum of terms that are not
+-- negative, so at a zero of it each term is 0; negative ones are negated first. Assumes nothing.
 use mathlib.Core.Path.{◌≡◌, refl, ap, subst₃, ◌∙◌}
 use mathlib.Core.Logic.{inl, inr}
-use Prim.Native.Nat.{ℕ, suc, ◌<◌}
+use Prim.Native.Nat.{ℕ, suc, ◌+◌, ◌*◌, ◌<◌}
 use native.Mathlib.Nat.{zero-lt-suc, not-suc-le-zero}
 use native.Mathlib.Omega.{arith}
 use lib.Dec.{ltb→lt}
@@ -28,12 +28,14 @@ of_negative (negsuc n) h = record { size = suc n; positive = zero-lt-suc n; is_s
 
 none_by_size : (a b c : ℕ) → 0 < a → 0 < b → 0 < c → ¬ Solvable (pos a) (pos b) (pos c)
 none_by_size a b c a>0 b>0 c>0 s =
-    let sum_is_zero = ap nat_abs (form_of_sizes (pos a) (pos b) (pos c) s.x s.y s.w ∙ s.solution.equation) in
     s.solution.not_all_zero (
       zero_square_term a s.x a>0 (omega (arith, sum_is_zero)),
       zero_square_term b s.y b>0 (omega (arith, sum_is_zero)),
       zero_square_term c s.w c>0 (omega (arith, sum_is_zero)),
     )
+  where
+    sum_is_zero : a * (nat_abs s.x * nat_abs s.x) + b * (nat_abs s.y * nat_abs s.y) + c * (nat_abs s.w * nat_abs s.w) ≡ 0
+    sum_is_zero = ap nat_abs (form_of_sizes (pos a) (pos b) (pos c) s.x s.y s.w ∙ s.solution.equation)
 
 none_by_sizes : {p g q : ℤ} → Size p → Size g → Size q → ¬ Solvable p g q
 none_by_sizes a b c =
@@ -43,5 +45,4 @@ none_by_sizes a b c =
 pub none_by_sign : NoneBySign
 unfolding NoneBySign
 none_by_sign p g q (inl h) s = none_by_sizes (of_positive p h.0) (of_positive g h.1) (of_positive q h.2) s
-none_by_sign p g q (inr h) s =
-    none_by_sizes (of_negative p h.0) (of_negative g h.1) (of_negative q h.2) (negated_solvable s)
+none_by_sign p g q (inr h) s = none_by_sizes (of_negative p h.0) (of_negative g h.1) (of_negative q h.2) (negated_solvable s)

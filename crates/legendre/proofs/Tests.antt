@@ -1,5 +1,5 @@
--- Tests joined: what it says of its parts that a test of both, of either, of not or of an implication holds. By cases
--- on the parts. Assumes nothing.
+-- Tests joined: what it says of its parts that a test of both, of either, of not or of an implication holds. By cases on the parts.
+-- Assumes nothing.
 use mathlib.Core.Path.{◌≡◌, refl}
 use mathlib.Core.Logic.{◌⊎◌, inl, inr, ⊎_elim, ◌↔◌}
 use mathlib.Core.Bool.{Bool, true, false, ◌&&◌, ◌||◌, not, false≢true}

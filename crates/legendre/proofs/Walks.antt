@@ -1,6 +1,6 @@
--- The walk of the box: what a row has passed and found, and what the rows have. Each step adds one place to those
--- that were passed, and a row ends where X² leaves the box. Assumes nothing.
-use mathlib.Core.Path.{◌≡◌}
+-- The walk of the box: what a row has passed and found, and what the rows have. Each step adds one place to those that were passed, and
+-- a row ends where X² leaves the box. Assumes nothing.
+use mathlib.Core.Path.{◌≡◌, subst}
 use mathlib.Core.Logic.{⊎_elim}
 use Prim.Native.Nat.{ℕ, ◌+◌, ◌*◌, ◌<◌}
 use native.Mathlib.Nat.{eq-or-lt_of_le, le_of_suc-le-suc, lt_of_le_of_lt}
@@ -22,17 +22,14 @@ pub record NoneBefore (p g q : ℤ) (w x : ℕ) : Type 0 where
 pub row_start : (p g q : ℤ) (w : ℕ) → NoneBefore p g q w 0
 row_start p g q w = record { none = λ a b h. absurd (omega arith) }
 
-pub row_next : {p g q : ℤ} {w x : ℕ} → NoneBefore p g q w x → ((y : ℕ) → ¬ BoxSolution p g q x y w) →
-    NoneBefore p g q w (x + 1)
-row_next before here = record {
-  none = λ a b h there. below_or_last h (λ less. before.none a b less there) (λ same. here b (rw same at there));
+pub row_next : {p g q : ℤ} {w x : ℕ} → NoneBefore p g q w x → ((y : ℕ) → ¬ BoxSolution p g q x y w) → NoneBefore p g q w (x + 1)
+row_next {p} {g} {q} {w} before here = record {
+  none = λ a b h there. below_or_last h (λ less. before.none a b less there) (λ same. here b (subst (λ (n : ℕ). BoxSolution p g q n b w) same there));
 }
 
 -- the row ends where X² is above |gq|
-pub row_end : {p g q : ℤ} {w x : ℕ} → NoneBefore p g q w x → nat_abs (g *ℤ q) < x * x → (a b : ℕ) →
-    ¬ BoxSolution p g q a b w
-row_end {x} before above a b there =
-    before.none a b (order_of_squares a x (lt_of_le_of_lt there.x_within above)) there
+pub row_end : {p g q : ℤ} {w x : ℕ} → NoneBefore p g q w x → nat_abs (g *ℤ q) < x * x → (a b : ℕ) → ¬ BoxSolution p g q a b w
+row_end {x} before above a b there = before.none a b (order_of_squares a x (lt_of_le_of_lt there.x_within above)) there
 
 -- ---- the rows
 
@@ -43,8 +40,7 @@ pub record NoneAbove (p g q : ℤ) (w : ℕ) : Type 0 where
 pub rows_start : (p g q : ℤ) → NoneAbove p g q 0
 rows_start p g q = record { none = λ a b c h. absurd (omega arith) }
 
-pub rows_next : {p g q : ℤ} {w : ℕ} → NoneAbove p g q w → ((a b : ℕ) → ¬ BoxSolution p g q a b w) →
-    NoneAbove p g q (w + 1)
-rows_next above here = record {
-  none = λ a b c h there. below_or_last h (λ less. above.none a b c less there) (λ same. here a b (rw same at there));
+pub rows_next : {p g q : ℤ} {w : ℕ} → NoneAbove p g q w → ((a b : ℕ) → ¬ BoxSolution p g q a b w) → NoneAbove p g q (w + 1)
+rows_next {p} {g} {q} above here = record {
+  none = λ a b c h there. below_or_last h (λ less. above.none a b c less there) (λ same. here a b (subst (BoxSolution p g q a b) same there));
 }

@@ -1,5 +1,5 @@
--- The levelled equation pX² + gY² + qW² = 0 over all whole numbers: its coefficients, its solutions, the box that the
--- paper looks in, and the condition at a prime. Assumes nothing.
+-- The levelled equation pX² + gY² + qW² = 0 over all whole numbers: its coefficients, its solutions, the box that the paper
+-- looks in, and the condition at a prime. Assumes nothing.
 use Rattle.std.specs.Prelude.{◌≡◌, ◌⊎◌, ℕ, ◌*◌, ◌≤◌, ℤ, pos, neg_ℤ, nat_abs, ◌+ℤ◌, ◌*ℤ◌, ◌<ℤ◌}
 use Rattle.number.specs.Divides.{◌∣ℤ◌}
 use Rattle.number.specs.Gcd.{Coprime}

@@ -1,5 +1,5 @@
--- The levelled equation's answer, as the paper gives it: sign; else the least failing prime; else, of the box's
--- solutions, the one with the least W, then the least X. Every "least" is a search. Assumes nothing.
+-- The levelled equation's answer, as the paper gives it: sign; else the least failing prime; else, of the box's solutions, the one
+-- with the least W, then the least X. Every "least" is a search. Assumes nothing.
 use Rattle.std.specs.Prelude.{Bool, ◌&&◌, ◌||◌, not, cond, ℕ, suc, max, eqb, ltb, ℤ, pos, neg_ℤ, nat_abs, ◌*ℤ◌}
 use Rattle.std.specs.Int.Signed.{lt_z}
 use Rattle.number.specs.Divides.{divides}

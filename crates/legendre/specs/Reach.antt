@@ -1,5 +1,5 @@
--- What the functions on machine numbers ask of their arguments: levelled coefficients whose product is at most 2⁶⁰ in
--- size, so that in the box each of pX², gY² and qW² is at most 2⁶⁰ too. Assumes nothing.
+-- What the functions on machine numbers ask of their arguments: levelled coefficients whose product is at most 2⁶⁰ in size, so that in
+-- the box each of pX², gY² and qW² is at most 2⁶⁰ too. Assumes nothing.
 use Rattle.std.specs.Prelude.{ℕ, ◌*◌, ◌^◌, ◌≤◌, ◌<◌, ℤ, pos, nat_abs, ◌*ℤ◌}
 use Rattle.legendre.specs.Equation.{Levelled, SolvableInBox}
 

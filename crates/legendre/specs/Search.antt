@@ -1,5 +1,5 @@
--- What the searches of the levelled equation's answer find, step by step: the primes of one coefficient, and the
--- places of one row of the box. Assumes nothing.
+-- What the searches of the levelled equation's answer find, step by step: the primes of one coefficient, and the places of one row of
+-- the box. Assumes nothing.
 use Rattle.std.specs.Prelude.{Bool, ◌&&◌, ◌||◌, not, cond, ℕ, suc, min, ◌<◌, ltb, ℤ, pos, nat_abs, neg_ℤ, ◌*ℤ◌}
 use Rattle.std.specs.Int.Signed.{lt_z}
 use Rattle.number.specs.Divides.{divides}

@@ -9,8 +9,7 @@ use crate::outcome::Outcome;
 use crate::signs::one_sign;
 use crate::walk::chosen;
 
-// What becomes of a levelled equation: none by sign, none by the least failing prime, or the chosen solution. The
-// cost is that of `least_failing`, and where no prime fails that of `chosen`.
+// The cost of `least_failing`, and where no prime fails that of `chosen`.
 pub fn outcome(p: i64, g: i64, q: i64) -> Outcome
     requires { Reach p g q }
     ensures { result ≡ outcome_of p g q }

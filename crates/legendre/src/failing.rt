@@ -10,7 +10,7 @@ use crate::least::{Least, smaller};
 use number::residue::{Root, least_root};
 use whole::magnitude;
 
-// Whether the number is no square modulo the prime: one root modulo the prime.
+// One root modulo the prime.
 fn no_root(prime: u64, number: i64) -> bool
     requires { PrimeModulus prime }
     ensures { result ≡ not (is_square_modulo prime number) }
@@ -23,9 +23,8 @@ fn no_root(prime: u64, number: i64) -> bool
     }
 }
 
-// The least prime divisor of a coefficient's size modulo which the number is no square. Trial division by 2 and the
-// odd numbers up to the root of what is left of the size: at most √size / 2 + log₂ size + 1 turns, with at most two
-// divisions each, and a root modulo each prime that divides.
+// Trial division by 2 and the odd numbers up to the root of what is left of the size: at most √size / 2 + log₂ size + 1 turns, with at
+// most two divisions each, and a root modulo each prime that divides.
 fn failing(size: u64, number: i64) -> Least
     requires { Triable size }
     ensures { result ≡ least_below (fails size number) (suc size) }
@@ -52,8 +51,7 @@ fn failing(size: u64, number: i64) -> Least
     }
 }
 
-// The least prime of a at which the condition for a fails, b and c being the other two: one product and one negation,
-// and what `failing` costs at the size of a.
+// One product and one negation, and what `failing` costs at the size of a.
 fn failing_of(a: i64, b: i64, c: i64) -> Least
     requires { Part a b c }
     ensures { result ≡ failing_of a b c }
@@ -61,7 +59,7 @@ fn failing_of(a: i64, b: i64, c: i64) -> Least
     failing(magnitude(a), -(b * c))
 }
 
-// The least prime at which Legendre's condition fails: what `failing` costs at the three sizes.
+// What `failing` costs at the three sizes.
 pub fn least_failing(p: i64, g: i64, q: i64) -> Least
     requires { Reach p g q }
     ensures { result ≡ least_below (fails_at p g q) (prime_limit p g q) }

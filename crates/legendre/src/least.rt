@@ -1,4 +1,4 @@
-// What a search for the least number finds.
+// What a search finds.
 ghost use Rattle.std.specs.Prelude.{◌≡◌};
 ghost use Rattle.legendre.specs.Search.{smaller_of};
 
@@ -8,7 +8,7 @@ pub enum Least {
     Nothing,
 }
 
-// The smaller of two finds: one comparison.
+// One comparison.
 pub fn smaller(a: Least, b: Least) -> Least
     ensures { result ≡ smaller_of a b }
 {

@@ -3,7 +3,7 @@ ghost use Rattle.std.specs.Prelude.{◌≡◌};
 ghost use Rattle.legendre.specs.Outcome.{is_one_sign};
 ghost use Rattle.legendre.specs.Search.{same_sign};
 
-// Whether both are above 0 or both below: at most three comparisons.
+// Both above 0 or both below: at most three comparisons.
 pub fn same_sign(a: i64, b: i64) -> bool
     ensures { result ≡ same_sign a b }
 {
@@ -16,7 +16,7 @@ pub fn same_sign(a: i64, b: i64) -> bool
     }
 }
 
-// Whether all three are above 0 or all below: at most six comparisons.
+// At most six comparisons.
 pub fn one_sign(p: i64, g: i64, q: i64) -> bool
     ensures { result ≡ is_one_sign p g q }
 {

@@ -25,8 +25,8 @@ fn terms(p: i64, q: i64, w: u64, x: u64) -> i64
     p * ((x * x) as i64) + q * ((w * w) as i64)
 }
 
-// The Y of the box's solution with this W and X: the terms, a division where they and g differ in sign, and a square
-// test where the division leaves nothing and the quotient is within the box.
+// The Y of the box's solution with this W and X: the terms, a division where they and g differ in sign, and a square test where the
+// division leaves nothing and the quotient is within the box.
 fn height(p: i64, g: i64, q: i64, w: u64, x: u64) -> Least
     requires { Place p g q w x }
     ensures { HeightAt p g q w x result }
@@ -54,7 +54,7 @@ fn height(p: i64, g: i64, q: i64, w: u64, x: u64) -> Least
     }
 }
 
-// Of the box's solutions with this W the one with the least X: at most √|gq| + 1 heights.
+// At most √|gq| + 1 heights.
 fn row(p: i64, g: i64, q: i64, w: u64) -> Found
     requires { Row p g q w }
     ensures { FirstInRow p g q w result }
@@ -70,8 +70,7 @@ fn row(p: i64, g: i64, q: i64, w: u64) -> Found
     Found::Nothing
 }
 
-// Of the box's solutions the one with the least W, then the least X: at most √|pg| + 1 rows, since the row of a
-// solution in the box ends the walk.
+// At most √|pg| + 1 rows: the row of a solution in the box ends the walk.
 pub fn chosen(p: i64, g: i64, q: i64) -> Triple
     requires { Walkable p g q }
     ensures { result ≡ Outcome.chosen p g q }

@@ -1,13 +1,13 @@
--- The laws of divisibility: the test says what the relation says, on ℕ and, through the sizes, on ℤ; a quotient makes
--- a multiple and a multiple a quotient. Assumes nothing.
-use mathlib.Core.Path.{◌≡◌, refl, sym, ap, ◌∙◌}
+-- The laws of divisibility: the test says what the relation says, on ℕ and, through the sizes, on ℤ; a quotient makes a multiple and
+-- a multiple a quotient. Assumes nothing.
+use mathlib.Core.Path.{◌≡◌, refl, sym, ap, ◌∙◌, subst}
 use mathlib.Core.Logic.{◌↔◌}
 use mathlib.Core.Bool.{true}
 use Prim.Native.Nat.{ℕ, ◌*◌, ◌/◌, ◌%◌, ◌≤◌, ◌<◌, ◌∣◌}
 use native.Mathlib.Nat.{dvd_of_mod-eq-zero, mod-eq-zero_of_dvd, mul-div_cancel', div-mul_cancel, dvd-mul_left, dvd_of_mul-dvd-mul_left, le_of_dvd}
 use native.Mathlib.Decide.{dec_dvd, map_dec}
 use borrow.Author.Tests.{eqb-true, eq-eqb}
-use lib.IntN.{ℤ, pos, negsuc, nat_abs, neg_ℤ, neg_ℤ-neg_ℤ, ◌+ℤ◌, ◌-ℤ◌, ◌*ℤ◌, *ℤ_comm, +ℤ-neg_ℤ_cancel}
+use lib.IntN.{ℤ, pos, negsuc, nat_abs, neg_ℤ, neg_ℤ-neg_ℤ, ◌+ℤ◌, ◌-ℤ◌, ◌*ℤ◌, *ℤ_comm, zero-*ℤ, +ℤ-neg_ℤ_cancel}
 use Rattle.whole.proofs.Laws.{one-*ℤ, *ℤ_assoc, *ℤ_distribʳ, negℤ-*ℤ, *ℤ_negℤ}
 use Rattle.whole.proofs.Size.{nat_abs-*}
 use Rattle.number.specs.Divides.{◌∣ℤ◌, divides}
@@ -25,7 +25,7 @@ pub quotient_times : (d : ℕ) {n : ℕ} → d ∣ n → n ≡ n / d * d
 quotient_times d h = sym (div-mul_cancel d h)
 
 pub divides_of_multiple : (d q : ℕ) {n : ℕ} → n ≡ q * d → d ∣ n
-divides_of_multiple d q e = rw e (dvd-mul_left d q)
+divides_of_multiple d q e = subst (λ (k : ℕ). d ∣ k) (sym e) (dvd-mul_left d q)
 
 -- ---- on ℤ
 pub ∣ℤ_multiple : (q a : ℤ) → a ∣ℤ (q *ℤ a)
@@ -34,19 +34,31 @@ pub ∣ℤ_multiple : (q a : ℤ) → a ∣ℤ (q *ℤ a)
 pub ∣ℤ_refl : (a : ℤ) → a ∣ℤ a
 ∣ℤ_refl a = record { quotient = pos 1; multiple = sym (one-*ℤ a) }
 
+pub ∣ℤ_zero : (a : ℤ) → a ∣ℤ pos 0
+∣ℤ_zero a = record { quotient = pos 0; multiple = sym (zero-*ℤ a) }
+
 pub one-∣ℤ : (a : ℤ) → pos 1 ∣ℤ a
-one-∣ℤ a = record { quotient = a; multiple = cc (*ℤ_comm a (pos 1), one-*ℤ a) }
+one-∣ℤ a = record { quotient = a; multiple = sym (*ℤ_comm a (pos 1) ∙ one-*ℤ a) }
 
 pub ∣ℤ_trans : {a b c : ℤ} → a ∣ℤ b → b ∣ℤ c → a ∣ℤ c
-∣ℤ_trans {a} h k =
-    record { quotient = k.quotient *ℤ h.quotient; multiple = cc (*ℤ_assoc k.quotient h.quotient a) }
+∣ℤ_trans {a} {b} h k =
+    record {
+      quotient = k.quotient *ℤ h.quotient;
+      multiple = k.multiple ∙ ap (λ x. k.quotient *ℤ x) h.multiple ∙ sym (*ℤ_assoc k.quotient h.quotient a);
+    }
 
 pub ∣ℤ_sum : {a b c : ℤ} → a ∣ℤ b → a ∣ℤ c → a ∣ℤ (b +ℤ c)
-∣ℤ_sum {a} h k =
-    record { quotient = h.quotient +ℤ k.quotient; multiple = cc (*ℤ_distribʳ h.quotient k.quotient a) }
+∣ℤ_sum {a} {b} {c} h k =
+    record {
+      quotient = h.quotient +ℤ k.quotient;
+      multiple =
+          ap (λ x. x +ℤ c) h.multiple ∙ ap (λ x. h.quotient *ℤ a +ℤ x) k.multiple
+          ∙ sym (*ℤ_distribʳ h.quotient k.quotient a);
+    }
 
 pub ∣ℤ_negation : {a b : ℤ} → a ∣ℤ b → a ∣ℤ neg_ℤ b
-∣ℤ_negation {a} h = record { quotient = neg_ℤ h.quotient; multiple = cc (negℤ-*ℤ h.quotient a) }
+∣ℤ_negation {a} h =
+    record { quotient = neg_ℤ h.quotient; multiple = ap neg_ℤ h.multiple ∙ sym (negℤ-*ℤ h.quotient a) }
 
 pub ∣ℤ_difference : {a b c : ℤ} → a ∣ℤ b → a ∣ℤ c → a ∣ℤ (b -ℤ c)
 ∣ℤ_difference h k = ∣ℤ_sum h (∣ℤ_negation k)
@@ -55,17 +67,20 @@ pub ∣ℤ_times_left : {a b : ℤ} (c : ℤ) → a ∣ℤ b → a ∣ℤ (c *�
 ∣ℤ_times_left {b} c h = ∣ℤ_trans h (∣ℤ_multiple c b)
 
 pub ∣ℤ_times_right : {a b : ℤ} (c : ℤ) → a ∣ℤ b → a ∣ℤ (b *ℤ c)
-∣ℤ_times_right {b} c h = rw (*ℤ_comm b c) (∣ℤ_times_left c h)
+∣ℤ_times_right {a} {b} c h = subst (λ x. a ∣ℤ x) (*ℤ_comm c b) (∣ℤ_times_left c h)
 
 -- the divisor's sign does not count
 pub negation-∣ℤ : {a b : ℤ} → a ∣ℤ b → neg_ℤ a ∣ℤ b
 negation-∣ℤ {a} h =
-    let q = h.quotient in
-    record { quotient = neg_ℤ q; multiple = cc (negℤ-*ℤ q (neg_ℤ a), *ℤ_negℤ q a, neg_ℤ-neg_ℤ (q *ℤ a)) }
+    record {
+      quotient = neg_ℤ h.quotient;
+      multiple =
+          h.multiple ∙ sym (negℤ-*ℤ h.quotient (neg_ℤ a) ∙ ap neg_ℤ (*ℤ_negℤ h.quotient a) ∙ neg_ℤ-neg_ℤ (h.quotient *ℤ a));
+    }
 
 -- a divisor of a sum and of one summand divides the other
 pub ∣ℤ_of_sum : {a b c : ℤ} → a ∣ℤ (b +ℤ c) → a ∣ℤ c → a ∣ℤ b
-∣ℤ_of_sum {a} {b} {c} h k = rw (+ℤ-neg_ℤ_cancel b c) at (∣ℤ_difference h k)
+∣ℤ_of_sum {a} {b} {c} h k = subst (λ x. a ∣ℤ x) (+ℤ-neg_ℤ_cancel b c) (∣ℤ_difference h k)
 
 -- ---- ℤ through the sizes
 pub nat_abs-∣ℤ : (a : ℤ) → a ∣ℤ pos (nat_abs a)
@@ -91,7 +106,7 @@ divisor_size_bound {a} {b} b≢0 h = le_of_dvd b≢0 (sizes_divide h)
 
 pub ∣ℤ_cancel : (c : ℤ) {a b : ℤ} → 0 < nat_abs c → (c *ℤ a) ∣ℤ (c *ℤ b) → a ∣ℤ b
 ∣ℤ_cancel c {a} {b} c≢0 h =
-    divides_by_sizes a b (dvd_of_mul-dvd-mul_left (nat_abs a) c≢0 (simp nat_abs-* at (sizes_divide h)))
+    divides_by_sizes a b (dvd_of_mul-dvd-mul_left (nat_abs a) c≢0 (rw (← nat_abs-* c a, ← nat_abs-* c b) (sizes_divide h)))
 
 -- the test and the decision
 pub divides_sizes_iff : {a b : ℤ} → (a ∣ℤ b) ↔ (divides (nat_abs a) (nat_abs b) ≡ true)

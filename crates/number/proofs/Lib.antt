@@ -11,9 +11,12 @@ pub mod Binomial
 pub mod Fermat
 pub mod Congruence
 pub mod Residues
+pub mod TwoRoots
 pub mod FromPrimes
 pub mod Square
 pub mod Newton
 pub mod SquareResidue
+pub mod SquarePart
 pub mod TrialDivision
+pub mod SplitFits
 pub mod LeastRoot

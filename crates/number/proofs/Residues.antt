@@ -25,8 +25,7 @@ passed : (n : ℕ) (m : ℤ) (r : ℕ) → root_test n m r ≡ true → Congruen
 passed n m r e = record { difference = (divides_sizes_iff {a = pos n} {b = pos r *ℤ pos r -ℤ m}).1 e }
 
 -- ---- the least root
-pub least_root_is_root :
-    {n : ℕ} {m : ℤ} → least_root_of n m < n → Congruent (pos n) (pos (least_root_of n m) *ℤ pos (least_root_of n m)) m
+pub least_root_is_root : {n : ℕ} {m : ℤ} → least_root_of n m < n → Congruent (pos n) (pos (least_root_of n m) *ℤ pos (least_root_of n m)) m
 unfolding least_root_of
 least_root_is_root {n} {m} h = passed n m (least_root_of n m) (least_holds (root_test n m) n h)
 
@@ -39,16 +38,16 @@ unfolding least_root_of
 least_root_is_least {n} {r} {m} h = least_is_least (root_test n m) n (passes n m r h)
 
 -- ---- squares modulo n
+pub square_root_congruent : {n : ℕ} {m : ℤ} → (s : SquareModulo n m) → Congruent (pos n) (s.root *ℤ s.root) m
+square_root_congruent s = record { difference = s.is_root }
+
 pub square_by_root : {n : ℕ} {m : ℤ} (r : ℤ) → Congruent (pos n) (r *ℤ r) m → SquareModulo n m
 square_by_root r h = record { root = r; is_root = h.difference }
 
 -- the root's remainder is a root
-pub reduced_root :
-    {n : ℕ} {m : ℤ} → 0 < n → (s : SquareModulo n m) →
-    Congruent (pos n) (pos (remainder_of n s.root) *ℤ pos (remainder_of n s.root)) m
+pub reduced_root : {n : ℕ} {m : ℤ} → 0 < n → (s : SquareModulo n m) → Congruent (pos n) (pos (remainder_of n s.root) *ℤ pos (remainder_of n s.root)) m
 reduced_root h s =
-    let near = remainder_congruent h s.root in
-    congruent_trans (congruent_product near near) record { difference = s.is_root }
+    congruent_trans (congruent_product (remainder_congruent h s.root) (remainder_congruent h s.root)) (square_root_congruent s)
 
 pub least_root_found : {n : ℕ} {m : ℤ} → 0 < n → SquareModulo n m → least_root_of n m < n
 least_root_found h s = lt_of_le_of_lt (least_root_is_least (reduced_root h s)) (remainder_below h s.root)

@@ -1,26 +1,23 @@
--- The split of n ≠ 0 into d·s², d squarefree: it exists, since what is left of n by the greatest square has no square
--- to give, and it is unique, since each of two such roots divides the other. So a square taken out of m comes out of its
--- square part as its root, and a squarefree number with no factor in common with m leaves it alone. Assumes nothing.
+-- The split of n ≠ 0 into d·s², d squarefree: it exists, since what is left of n by the greatest square has no square to give, and
+-- it is unique, since each of two such roots divides the other. Assumes nothing.
 use mathlib.Core.Path.{◌≡◌, refl, sym, ◌∙◌, ap}
 use mathlib.Core.Logic.{◌≢◌}
-use Prim.Native.Nat.{ℕ, zero, suc, ◌*◌, ◌∣◌, ◌≤◌, ◌<◌, zero-le}
-use native.Mathlib.Nat.{le_antisymm, le_trans, ne_of_gt, mul-pos, mul-mul-mul_comm, one-mul, le_of_mul-le-mul_right, le-mul_of_pos_right, zero-lt-suc, le_of_dvd, pos_of_dvd_of_pos, one-dvd, dvd_trans, dvd_antisymm, dvd-mul_left, dvd-mul_right, mul-dvd-mul_right, mul_assoc, mul_left_comm}
+use Prim.Native.Nat.{ℕ, ◌*◌, ◌∣◌, ◌≤◌, ◌<◌}
+use native.Mathlib.Nat.{le_antisymm, le_trans, ne_of_gt, mul-pos, mul-mul-mul_comm, one-mul, le_of_mul-le-mul_right, le_of_dvd, pos_of_dvd_of_pos, one-dvd, dvd_trans, dvd_antisymm, dvd-mul_left, dvd-mul_right, mul-dvd-mul_right}
 use native.Mathlib.Omega.{arith}
 use lib.IntN.{ℤ, pos, nat_abs, ◌*ℤ◌, *ℤ_comm}
 use lib.Signed.{quot_z}
-use Rattle.whole.proofs.Size.{nat_abs-*, nat_abs_positive, quotient_size}
-use Rattle.whole.proofs.Products.{*ℤ_cancel}
-use Rattle.whole.proofs.Quotient.{quot_exact}
 use Rattle.number.specs.Divides.{divides}
 use Rattle.number.specs.Least.{first_from, least, greatest}
 use Rattle.number.specs.Square.{root_of}
 use Rattle.number.specs.Squarefree.{Squarefree, square_part, free_part}
-use Rattle.number.specs.Gcd.{Coprime}
+use Rattle.whole.proofs.Size.{nat_abs-*, nat_abs_positive}
+use Rattle.whole.proofs.Products.{*ℤ_cancel}
+use Rattle.whole.proofs.Quotient.{quot_exact}
 use Rattle.number.proofs.Least.{greatest_at_most, greatest_holds, greatest_is_greatest}
 use Rattle.number.proofs.Divides.{divides_iff}
 use Rattle.number.proofs.Square.{root_is, at_most_root, square-≤}
-use Rattle.number.proofs.Squarefree.{root_divides_root, squarefree_positive, squarefree_same_size, one_squarefree, squarefree_product}
-use Rattle.number.proofs.Gcd.{coprime_of_common_divisors, coprime_common_divisor}
+use Rattle.number.proofs.Squarefree.{root_divides_root, squarefree_positive, squarefree_same_size}
 
 pub record IsSplit (n d : ℤ) (s : ℕ) : Type 0 where
   pub product : n ≡ d *ℤ pos (s * s)
@@ -55,17 +52,6 @@ square_part_squared_at_most n =
     (square-≤ (greatest_at_most (λ s. divides (s * s) (nat_abs n)) (root_of (nat_abs n))))
     (root_is (nat_abs n)).square_at_most
 
-pub square_part_at_most : (n : ℤ) → square_part n ≤ nat_abs n
-square_part_at_most n = le_trans (at_most_square (square_part n)) (square_part_squared_at_most n)
-  where
-    at_most_square : (s : ℕ) → s ≤ s * s
-    at_most_square zero = zero-le
-    at_most_square (suc s) = le-mul_of_pos_right (suc s) (zero-lt-suc s)
-
-pub free_part_at_most : (n : ℤ) → nat_abs (free_part n) ≤ nat_abs n
-unfolding free_part
-free_part_at_most n = quotient_size n (pos (square_part n * square_part n))
-
 split_product : (n : ℤ) → n ≢ pos 0 → n ≡ free_part n *ℤ pos (square_part n * square_part n)
 unfolding free_part
 split_product n n≢0 =
@@ -78,32 +64,33 @@ size_of_product d s e = ap nat_abs e ∙ nat_abs-* d (pos (s * s))
 free_part_squarefree : (n : ℤ) → n ≢ pos 0 → Squarefree (free_part n)
 free_part_squarefree n n≢0 = record { no_square = λ d h. le_antisymm (at_most_one d h) (at_least_one d h) }
   where
-    s : ℕ
-    s = square_part n
+    size : nat_abs n ≡ nat_abs (free_part n) * (square_part n * square_part n)
+    size = size_of_product (free_part n) (square_part n) (split_product n n≢0)
 
-    f : ℕ
-    f = nat_abs (free_part n)
+    larger_square : (d : ℕ) → d * d ∣ nat_abs (free_part n) → (d * square_part n) * (d * square_part n) ∣ nat_abs n
+    larger_square d h =
+        rw (size, mul-mul-mul_comm d (square_part n) d (square_part n))
+        (mul-dvd-mul_right (d * d) h (square_part n * square_part n))
 
-    size : nat_abs n ≡ f * (s * s)
-    size = size_of_product (free_part n) s (split_product n n≢0)
-
-    larger_square : (d : ℕ) → d * d ∣ f → (d * s) * (d * s) ∣ nat_abs n
-    larger_square d h = rw (size, mul-mul-mul_comm d s d s) (mul-dvd-mul_right (d * d) h (s * s))
-
-    at_most_one : (d : ℕ) → d * d ∣ f → d ≤ 1
+    at_most_one : (d : ℕ) → d * d ∣ nat_abs (free_part n) → d ≤ 1
     at_most_one d h =
-        le_of_mul-le-mul_right (rw one-mul (square_part_is_greatest n (d * s) n≢0 (larger_square d h)))
+        le_of_mul-le-mul_right
+        (rw (one-mul (square_part n)) (square_part_is_greatest n (d * square_part n) n≢0 (larger_square d h)))
         (square_part_positive n n≢0)
 
-    at_least_one : (d : ℕ) → d * d ∣ f → 0 < d
+    at_least_one : (d : ℕ) → d * d ∣ nat_abs (free_part n) → 0 < d
     at_least_one d h =
-        pos_of_dvd_of_pos (dvd_trans d (dvd-mul_right d d) (dvd_trans (d * d) h (rw size (dvd-mul_right f (s * s)))))
+        pos_of_dvd_of_pos
+        (dvd_trans d (dvd-mul_right d d) (dvd_trans (d * d) h (rw size (dvd-mul_right (nat_abs (free_part n)) (square_part n * square_part n)))))
         (nat_abs_positive n≢0)
 
 pub split_is : (n : ℤ) → n ≢ pos 0 → IsSplit n (free_part n) (square_part n)
-split_is n h =
-    let positive = square_part_positive n h in
-    record { product = split_product n h; root_positive = positive; squarefree = free_part_squarefree n h }
+split_is n n≢0 =
+    record {
+      product = split_product n n≢0;
+      root_positive = square_part_positive n n≢0;
+      squarefree = free_part_squarefree n n≢0;
+    }
 
 -- ---- uniqueness
 root_divides : {n d e : ℤ} {s t : ℕ} → IsSplit n d s → IsSplit n e t → s ∣ t
@@ -117,10 +104,13 @@ split_unique {n} {d} {e} {s} {t} p q = (same_factor, same_root)
     same_root : s ≡ t
     same_root = dvd_antisymm (root_divides p q) (root_divides q p)
 
+    square_not_zero : pos (s * s) ≢ pos 0
+    square_not_zero e = ne_of_gt (mul-pos p.root_positive p.root_positive) (ap nat_abs e)
+
     same_factor : d ≡ e
     same_factor =
-        *ℤ_cancel (pos (s * s)) (λ e. ne_of_gt (mul-pos p.root_positive p.root_positive) (ap nat_abs e))
-        (cc (*ℤ_comm (pos (s * s)) d, *ℤ_comm e (pos (s * s)), same_root))
+        *ℤ_cancel (pos (s * s)) square_not_zero
+        (*ℤ_comm (pos (s * s)) d ∙ sym p.product ∙ q.product ∙ ap (λ (r : ℕ). e *ℤ pos (r * r)) (sym same_root) ∙ *ℤ_comm e (pos (s * s)))
 
 pub split_equals : {n d : ℤ} {s : ℕ} → IsSplit n d s → (free_part n ≡ d) × (square_part n ≡ s)
 split_equals {n} {d} {s} p = split_unique (split_is n not_zero) p
@@ -133,51 +123,4 @@ split_equals {n} {d} {s} p = split_unique (split_is n not_zero) p
         omega arith
 
 pub square_part_equals : {m : ℕ} (f s : ℕ) → m ≡ f * (s * s) → 0 < s → Squarefree (pos f) → square_part (pos m) ≡ s
-square_part_equals f s e p free =
-    (split_equals {d = pos f} record { product = ap pos e; root_positive = p; squarefree = free }).1
-
--- ---- the square part of a product
--- m ≡ free · s², s the square part of m
-pub record Divided (m s : ℕ) : Type 0 where
-  pub free : ℕ
-  pub product : m ≡ free * (s * s)
-  pub positive : 0 < s
-  pub squarefree : Squarefree (pos free)
-
-pub divided : (m : ℕ) → 0 < m → Divided m (square_part (pos m))
-divided m p =
-    record {
-      free = nat_abs (free_part (pos m));
-      product = size_of_product (free_part (pos m)) (square_part (pos m)) (split_is (pos m) not_zero).product;
-      positive = (split_is (pos m) not_zero).root_positive;
-      squarefree = squarefree_same_size refl (split_is (pos m) not_zero).squarefree;
-    }
-  where
-    not_zero : pos m ≢ pos 0
-    not_zero e = omega (arith, ap nat_abs e)
-
-pub square_part_of_square : (r : ℕ) → square_part (pos (r * r)) ≡ r
-square_part_of_square zero = square_part_of_zero
-square_part_of_square (suc r) = square_part_equals 1 (suc r) (rw one-mul) (zero-lt-suc r) one_squarefree
-
-pub square_part_of_square_times : (k m : ℕ) → 0 < k → 0 < m → square_part (pos (k * k * m)) ≡ k * square_part (pos m)
-square_part_of_square_times k m p q = go (divided m q)
-  where
-    go : {s : ℕ} → Divided m s → square_part (pos (k * k * m)) ≡ k * s
-    go {s} e =
-        square_part_equals e.free (k * s)
-        (cc (mul_left_comm (k * k) e.free (s * s), mul-mul-mul_comm k k s s))
-        (mul-pos p e.positive)
-        e.squarefree
-
-pub square_part_of_squarefree_times :
-    (c m : ℕ) → 0 < m → Squarefree (pos c) → Coprime (pos c) (pos m) → square_part (pos (c * m)) ≡ square_part (pos m)
-square_part_of_squarefree_times c m q free apart = go (divided m q)
-  where
-    go : {s : ℕ} → Divided m s → square_part (pos (c * m)) ≡ s
-    go {s} e =
-        let free_divides : e.free ∣ m = rw e.product (dvd-mul_right e.free (s * s)) in
-        square_part_equals (c * e.free) s (cc (mul_assoc c e.free (s * s))) e.positive
-        (squarefree_product
-        (coprime_of_common_divisors (λ d dc df. coprime_common_divisor apart d dc (dvd_trans d df free_divides)))
-        free e.squarefree)
+square_part_equals {m} f s e p free = (split_equals {d = pos f} (record { product = ap pos e; root_positive = p; squarefree = free })).1

@@ -1,5 +1,5 @@
--- Divisibility of whole numbers: a divides b if b is a multiple of a. On natural numbers it is the library's `◌∣◌`,
--- and `divides` is its test. Assumes nothing.
+-- Divisibility of whole numbers: a divides b if b is a multiple of a. On natural numbers it is the library's `◌∣◌`, and `divides`
+-- is its test. Assumes nothing.
 use Rattle.std.specs.Prelude.{◌≡◌, Bool, ℕ, ◌%◌, eqb, ℤ, ◌*ℤ◌}
 
 infix 50 ◌∣ℤ◌

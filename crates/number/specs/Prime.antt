@@ -1,5 +1,4 @@
--- Primes: at least 2, and no divisor strictly between 1 and the number; with the test that tries every divisor.
--- Assumes nothing.
+-- Primes: at least 2, and no divisor strictly between 1 and the number; with the test that tries every divisor. Assumes nothing.
 use Rattle.std.specs.Prelude.{◌≡◌, ◌⊎◌, Bool, ◌&&◌, ℕ, ◌≤◌, leb, eqb}
 use Rattle.std.specs.Int.{◌∣◌}
 use Rattle.number.specs.Divides.{divides}

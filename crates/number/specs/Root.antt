@@ -1,5 +1,5 @@
--- The least root of a number modulo a prime, or nothing where there is none; and what the functions that look for it
--- ask of their arguments. Assumes nothing.
+-- The least root of a number modulo a prime, or nothing where there is none; and what the functions that look for it ask of their
+-- arguments. Assumes nothing.
 use Rattle.std.specs.Prelude.{◌≡◌, Bool, true, false, ℕ, ◌%◌, ◌^◌, ◌≤◌, ◌<◌, ℤ}
 use Rattle.number.specs.Prime.{Prime}
 use Rattle.number.specs.Residue.{least_root_of, is_square_modulo}

@@ -1,5 +1,5 @@
--- Squarefree numbers, and the split of n ≠ 0 into d·s² with d squarefree (sign kept): s is the greatest number whose
--- square divides n. Assumes nothing.
+-- Squarefree numbers, and the split of n ≠ 0 into d·s² with d squarefree (sign kept): s is the greatest number whose square
+-- divides n. Assumes nothing.
 use Rattle.std.specs.Prelude.{◌≡◌, ℕ, ◌*◌, ℤ, pos, nat_abs}
 use Rattle.std.specs.Int.{◌∣◌}
 use Rattle.std.specs.Int.Signed.{quot_z}

@@ -11,7 +11,7 @@ pub enum Root {
     Nothing,
 }
 
-// What a product leaves: one multiplication and one division.
+// One multiplication and one division.
 fn product(a: u64, b: u64, modulus: u64) -> u64
     requires { Factors modulus a b }
     ensures { IsRemainder modulus (a * b) result }
@@ -19,7 +19,7 @@ fn product(a: u64, b: u64, modulus: u64) -> u64
     a * b % modulus
 }
 
-// What a power leaves, by repeated squaring: at most two products for each binary digit of the exponent.
+// Repeated squaring: at most two products for each binary digit of the exponent.
 fn power(base: u64, exponent: u64, modulus: u64) -> u64
     requires { Factors modulus base base }
     ensures { IsRemainder modulus (base ^ exponent) result }
@@ -119,8 +119,8 @@ fn scan(prime: u64, residue: u64) -> Root
     Root::Nothing
 }
 
-// The least root by powers: one to (prime - 1) / 2 other than 1 refutes a root, and a candidate that squares to the residue
-// is a root; if it did not, every number would be tried. One power, and the candidate's if there is a root.
+// A power to (prime - 1) / 2 other than 1 refutes a root, and a candidate that squares to the residue is a root; if it did
+// not, every number would be tried. One power, and the candidate's if there is a root.
 fn by_powers(prime: u64, residue: u64) -> Root
     requires { ProperResidue prime residue }
     ensures { result ≡ least_root prime (pos residue) }
@@ -137,7 +137,7 @@ fn by_powers(prime: u64, residue: u64) -> Root
     Root::Least(least)
 }
 
-// What a number of either sign leaves, from 0 up: one division.
+// One division.
 fn remainder(modulus: u64, number: i64) -> u64
     requires { Modulus modulus }
     ensures { result ≡ remainder_of modulus number }

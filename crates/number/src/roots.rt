@@ -2,8 +2,8 @@
 ghost use Rattle.std.specs.Prelude.{◌≡◌};
 ghost use Rattle.number.specs.Square.{root_of, is_square};
 
-// The integer root of n, by Newton's steps down from a power of two at most twice the root: a step from 1 + e times it goes
-// to less than 1 + e²/2 times it, so at most 6 steps, with a division each.
+// Newton's steps down to the root, from a power of two at most twice the root of n: a step from 1 + e times that root goes to less
+// than 1 + e²/2 times it, so at most 6 steps, with a division each.
 pub fn root(n: u64) -> u64
     ensures { result ≡ root_of n }
 {
@@ -20,7 +20,7 @@ pub fn root(n: u64) -> u64
 // Bit k is 1 where a square can leave k modulo 64: 12 of the 64.
 const SQUARES_MODULO_64: u64 = 0x0202021202030213;
 
-// Whether n is a square. A shift refuses four of five numbers; a root and a product test the others.
+// A shift refuses four of five numbers; a root and a product test the others.
 pub fn is_square(n: u64) -> bool
     ensures { result ≡ is_square n }
 {

@@ -1,20 +1,19 @@
-// The split of a natural number into a squarefree number and a square.
+// The split of a whole number into a squarefree number, with its sign, and a square.
 ghost use Rattle.std.specs.Prelude.{◌≡◌, pos};
 ghost use Rattle.number.specs.Squarefree.{square_part};
 ghost use Rattle.number.specs.Split.{split_of};
 
 use crate::roots;
 
-// A number as free · square², with free squarefree; both are 0 for 0.
+// A number as free · square², with free squarefree and of the number's sign; both are 0 for 0.
 #[derive(Drop)]
 pub struct Parts {
-    pub free: u64,
+    pub free: i64,
     pub square: u64,
 }
 
-// The root of the greatest square that divides n. Divisors go up to the cube root of what is left of n, which then has at
-// most two prime factors, so that it is a square or squarefree. At most ∛n + log₂ n turns, with at most five divisions
-// each, and two roots.
+// The root of the greatest square that divides n. Divisors go up to the cube root of what is left of n, which then has at most two
+// prime factors, so that it is a square or squarefree. At most ∛n + log₂ n turns, with at most five divisions each, and two roots.
 fn square_part(n: u64) -> u64
     ensures { result ≡ square_part (pos n) }
 {
@@ -39,14 +38,14 @@ fn square_part(n: u64) -> u64
     }
 }
 
-// A number split into a squarefree number and a square: one square part and one division.
-pub fn split(n: u64) -> Parts
+// One square part and one division.
+pub fn split(n: i64) -> Parts
     ensures { result ≡ split_of n }
 {
     if n == 0 {
         return Parts { free: 0, square: 0 };
     }
-    let square = square_part(n);
-    let free = n / (square * square);
+    let square = square_part(whole::magnitude(n));
+    let free = n / ((square * square) as i64);
     Parts { free, square }
 }

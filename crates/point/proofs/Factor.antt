@@ -1,10 +1,10 @@
 -- The common factor of a point's three numbers, which divides each, and the first of z, x, y that is not 0: how both grow with a
 -- multiple of the point, and that either is 0 at the zero vector alone. Assumes nothing.
-use mathlib.Core.Path.{◌≡◌, refl, ap, ap₂, ◌∙◌}
+use mathlib.Core.Path.{◌≡◌, refl, sym, ap, ap₂, ◌∙◌}
 use mathlib.Core.Logic.{◌≢◌}
 use Prim.Native.Nat.{ℕ, zero, suc, ◌*◌, ◌∣◌}
-use native.Mathlib.Nat.{dvd_trans, suc-ne-zero}
-use lib.IntN.{ℤ, pos, negsuc, nat_abs, ◌*ℤ◌, *ℤ-zero}
+use native.Mathlib.Nat.{dvd_trans}
+use lib.IntN.{ℤ, pos, negsuc, nat_abs, ◌*ℤ◌, ℤ_discrete, *ℤ-zero}
 use Rattle.whole.proofs.Size.{nat_abs-*, nat_abs_zero, nat_abs_positive}
 use Rattle.whole.proofs.Cancel.{product_not_zero}
 use Rattle.number.specs.Gcd.{gcd_of}
@@ -15,13 +15,17 @@ use Rattle.point.proofs.Vector.{scaled, Zero}
 
 -- ---- the common factor
 
-pub factor_divides : (p : Point) → (common_factor p ∣ nat_abs p.x) × (common_factor p ∣ nat_abs p.y) × (common_factor p ∣ nat_abs p.z)
+pub factor_divides_x : (p : Point) → common_factor p ∣ nat_abs p.x
 unfolding common_factor
-factor_divides p = (
-  dvd_trans (common_factor p) (gcd_divides_left _ _) (gcd_divides_left _ _),
-  dvd_trans (common_factor p) (gcd_divides_left _ _) (gcd_divides_right _ _),
-  gcd_divides_right _ _,
-)
+factor_divides_x p = dvd_trans (common_factor p) (gcd_divides_left _ _) (gcd_divides_left _ _)
+
+pub factor_divides_y : (p : Point) → common_factor p ∣ nat_abs p.y
+unfolding common_factor
+factor_divides_y p = dvd_trans (common_factor p) (gcd_divides_left _ _) (gcd_divides_right _ _)
+
+pub factor_divides_z : (p : Point) → common_factor p ∣ nat_abs p.z
+unfolding common_factor
+factor_divides_z p = gcd_divides_right _ _
 
 pub factor_scaled : (k : ℤ) (p : Point) → k ≢ pos 0 → common_factor (scaled k p) ≡ nat_abs k * common_factor p
 unfolding common_factor
@@ -39,27 +43,30 @@ zero_of_factor p e =
 
 -- ---- the first number that is not 0
 
-pub or_else_first : {m : ℤ} (n : ℤ) → m ≢ pos 0 → or_else m n ≡ m
+or_else_first : {m : ℤ} (n : ℤ) → m ≢ pos 0 → or_else m n ≡ m
 unfolding or_else
 or_else_first {m = pos zero} n f = absurd (f refl)
 or_else_first {m = pos (suc m)} n f = refl
 or_else_first {m = negsuc m} n f = refl
 
-pub or_else_second : {m : ℤ} (n : ℤ) → m ≡ pos 0 → or_else m n ≡ n
+or_else_second : {m : ℤ} (n : ℤ) → m ≡ pos 0 → or_else m n ≡ n
 unfolding or_else
-or_else_second n e = rw e
+or_else_second n e = ap (λ m. or_else m n) e
 
 or_else_scaled : (k m n : ℤ) → k ≢ pos 0 → or_else (k *ℤ m) (k *ℤ n) ≡ k *ℤ or_else m n
-unfolding or_else
-or_else_scaled k (pos zero) n f = or_else_second (k *ℤ n) (*ℤ-zero k)
-or_else_scaled k (pos (suc m)) n f = or_else_first (k *ℤ n) (product_not_zero f (λ e. suc-ne-zero m (ap nat_abs e)))
-or_else_scaled k (negsuc m) n f = or_else_first (k *ℤ n) (product_not_zero f (λ e. suc-ne-zero m (ap nat_abs e)))
+or_else_scaled k m n f = pick (ℤ_discrete m (pos 0))
+  where
+    pick : Dec (m ≡ pos 0) → or_else (k *ℤ m) (k *ℤ n) ≡ k *ℤ or_else m n
+    pick (yes e) =
+        or_else_second (k *ℤ n) (ap (λ c. k *ℤ c) e ∙ *ℤ-zero k) ∙ ap (λ c. k *ℤ c) (sym (or_else_second n e))
+    pick (no g) = or_else_first (k *ℤ n) (product_not_zero f g) ∙ ap (λ c. k *ℤ c) (sym (or_else_first n g))
 
 or_else_zero : (m n : ℤ) → or_else m n ≡ pos 0 → (m ≡ pos 0) × (n ≡ pos 0)
-unfolding or_else
-or_else_zero (pos zero) n e = (refl, e)
-or_else_zero (pos (suc m)) n e = absurd (suc-ne-zero m (ap nat_abs e))
-or_else_zero (negsuc m) n e = absurd (suc-ne-zero m (ap nat_abs e))
+or_else_zero m n e = pick (ℤ_discrete m (pos 0))
+  where
+    pick : Dec (m ≡ pos 0) → (m ≡ pos 0) × (n ≡ pos 0)
+    pick (yes z) = (z, sym (or_else_second n z) ∙ e)
+    pick (no f) = absurd (f (sym (or_else_first n f) ∙ e))
 
 pub leading_scaled : (k : ℤ) (p : Point) → k ≢ pos 0 → leading (scaled k p) ≡ k *ℤ leading p
 unfolding leading

@@ -1,7 +1,9 @@
 pub mod Vector
 pub mod Factor
 pub mod Normal
-pub mod Directions
+pub mod Cases
+pub mod Stores
+pub mod Tests
 pub mod Passed
 pub mod Limits
-pub mod Legal
+pub mod Promise

@@ -4,20 +4,19 @@
 use mathlib.Core.Path.{◌≡◌, refl, sym, ap, ap₂, ◌∙◌, subst}
 use mathlib.Core.Logic.{◌≢◌, ◌↔◌}
 use Prim.Native.Nat.{ℕ, zero, suc, ◌*◌, ◌≤◌, ◌∣◌}
-use native.Mathlib.Nat.{zero-lt-suc, mul-one, zero-div, eq_of_mul-eq-mul_left, mul-suc, add-suc}
-use lib.IntN.{ℤ, pos, negsuc, neg_ℤ, nat_abs, ◌*ℤ◌, *ℤ_comm, *ℤ-zero, neg_ℤ-neg_ℤ}
-use lib.Signed.{quot_z, ◌<ℤ◌, <ℤ_irrefl, clash_ℤ}
+use native.Mathlib.Nat.{suc-ne-zero, zero-lt-suc, mul-zero, mul-one, zero-div, eq_of_mul-eq-mul_left}
+use lib.IntN.{ℤ, pos, negsuc, neg_ℤ, nat_abs, ◌*ℤ◌, *ℤ_comm, neg_ℤ-neg_ℤ, pos-ne-negsuc}
+use lib.Signed.{quot_z, ◌<ℤ◌, <ℤ_irrefl}
 use Rattle.whole.proofs.Laws.{negℤ-*ℤ}
-use Rattle.whole.proofs.Order.{pos-<, ≤ℤ_of-<ℤ, zero-≤ℤ_pos, negsuc-<ℤ_pos}
-use Rattle.whole.proofs.Size.{nat_abs_neg, nat_abs_positive}
-use Rattle.whole.proofs.Products.{*ℤ_cancel-<ℤ}
+use Rattle.whole.proofs.Order.{pos-<, ≢-of-<ℤ, ≤ℤ_of-<ℤ, pos_nat_abs_of-≤ℤ}
+use Rattle.whole.proofs.Size.{nat_abs_neg, nat_abs-*, quotient_size, nat_abs_positive}
+use Rattle.whole.proofs.Products.{*ℤ_cancel}
 use Rattle.whole.proofs.Quotient.{quot_exact}
 use Rattle.whole.proofs.Cancel.{product_not_zero}
-use Rattle.point.specs.Normal.{common_factor, leading, signed, over, normal, NormalForm, at_infinity, normal_direction, NormalFormOf, NormalIsTheOne}
+use Rattle.point.specs.Normal.{common_factor, leading, signed, over, normal, NormalForm}
 use Rattle.point.specs.declared.Point.{Point}
-use Rattle.point.specs.declared.Direction.{Direction}
 use Rattle.point.proofs.Vector.{scaled, same_point, one_not_zero, scaled_one, scaled_twice, cancel_scaled, Zero, scaled_not_zero, Proportional, Aligned, aligned_multiple, aligned_proportional, proportional_aligned}
-use Rattle.point.proofs.Factor.{factor_divides, factor_scaled, zero_of_factor, leading_scaled, leading_of_zero, zero_of_leading}
+use Rattle.point.proofs.Factor.{factor_divides_x, factor_divides_y, factor_divides_z, factor_scaled, zero_of_factor, leading_scaled, leading_of_zero, zero_of_leading}
 
 -- ---- a point is its signed factor times its normal form
 
@@ -32,15 +31,13 @@ size_of_signed (negsuc m) n = nat_abs_neg (pos n)
 pub size_of_signed_factor : (p : Point) → nat_abs (signed_factor p) ≡ common_factor p
 size_of_signed_factor p = size_of_signed (leading p) (common_factor p)
 
-pub zero_of_signed_factor : (p : Point) → signed_factor p ≡ pos 0 → Zero p
-zero_of_signed_factor p e = zero_of_factor p (sym (size_of_signed_factor p) ∙ ap nat_abs e)
-
 pub signed_factor_not_zero : {p : Point} → ¬ Zero p → signed_factor p ≢ pos 0
-signed_factor_not_zero {p} f e = f (zero_of_signed_factor p e)
+signed_factor_not_zero {p} f e = f (zero_of_factor p (sym (size_of_signed_factor p) ∙ ap nat_abs e))
 
 pub factor_times_normal : (p : Point) → scaled (signed_factor p) (normal p) ≡ p
 unfolding normal over
-factor_times_normal p = let (x, y, z) = factor_divides p in same_point (exact x) (exact y) (exact z)
+factor_times_normal p =
+    same_point (exact (factor_divides_x p)) (exact (factor_divides_y p)) (exact (factor_divides_z p))
   where
     exact : {m : ℤ} → common_factor p ∣ nat_abs m → signed_factor p *ℤ quot_z m (signed_factor p) ≡ m
     exact {m} h = quot_exact m (signed_factor p) (subst (λ (n : ℕ). n ∣ nat_abs m) (sym (size_of_signed_factor p)) h)
@@ -48,7 +45,13 @@ factor_times_normal p = let (x, y, z) = factor_divides p in same_point (exact x)
 -- ---- the normal form is one
 
 positive_cofactor : (g m : ℕ) (l : ℤ) → pos g *ℤ l ≡ pos (suc m) → pos 0 <ℤ l
-positive_cofactor g m l e = *ℤ_cancel-<ℤ (zero-≤ℤ_pos g) (rw (*ℤ-zero (pos g), e) (pos-< (zero-lt-suc m)))
+positive_cofactor g m (pos zero) e = absurd (suc-ne-zero m (sym (ap nat_abs e) ∙ mul-zero g))
+positive_cofactor g m (pos (suc l)) e = pos-< (zero-lt-suc l)
+positive_cofactor g m (negsuc l) e = absurd (not_negative (g * suc l) e)
+  where
+    not_negative : (n : ℕ) → neg_ℤ (pos n) ≢ pos (suc m)
+    not_negative zero e = suc-ne-zero m (sym (ap nat_abs e))
+    not_negative (suc n) e = pos-ne-negsuc (suc m) n (sym e)
 
 -- n with the sign of m, times l, is m: so l is positive
 signed_cofactor : (m : ℤ) (n : ℕ) (l : ℤ) → m ≢ pos 0 → signed m n *ℤ l ≡ m → pos 0 <ℤ l
@@ -79,26 +82,41 @@ normal_is_normal_form {p} f =
 pub normal_form_not_zero : {p : Point} → NormalForm p → ¬ Zero p
 normal_form_not_zero n e = <ℤ_irrefl (subst (λ m. pos 0 <ℤ m) (leading_of_zero e) n.positive)
 
-signed_by_multiple : (k : ℤ) {l : ℤ} → pos 0 <ℤ l → signed (k *ℤ l) (nat_abs k) ≡ k
-unfolding signed
-signed_by_multiple k {l = pos zero} h = absurd (<ℤ_irrefl h)
-signed_by_multiple (pos k) {l = pos (suc l)} h = refl
-signed_by_multiple (negsuc k) {l = pos (suc l)} h = rw (mul-suc (suc k) l, add-suc (suc k * l) k)
-signed_by_multiple k {l = negsuc l} h = clash_ℤ h (≤ℤ_of-<ℤ (negsuc-<ℤ_pos l 0))
-
--- a multiple of a normal form has its factor for signed factor
-factor_of_multiple : {p : Point} (k : ℤ) → k ≢ pos 0 → NormalForm p → signed_factor (scaled k p) ≡ k
-factor_of_multiple {p} k f n =
-    ap₂ signed (leading_scaled k p f) (factor_scaled k p f ∙ rw n.no_common_factor (mul-one (nat_abs k)))
-    ∙ signed_by_multiple k n.positive
-
 pub normal_form_unique : {p q : Point} → NormalForm p → NormalForm q → Aligned p q → p ≡ q
-normal_form_unique {p} {q} m n r = cancel_scaled r.left r.left_not_zero (r.same ∙ ap (λ k. scaled k q) (sym same_factor))
+normal_form_unique {p} {q} m n r = cancel_scaled a f (r.same ∙ ap (λ c. scaled c q) (sym a≡b))
   where
-    same_factor : r.left ≡ r.right
-    same_factor =
-        sym (factor_of_multiple r.left r.left_not_zero m) ∙ ap signed_factor r.same
-        ∙ factor_of_multiple r.right r.right_not_zero n
+    a : ℤ
+    a = r.left
+
+    b : ℤ
+    b = r.right
+
+    f : a ≢ pos 0
+    f = r.left_not_zero
+
+    factor_size : {p : Point} (k : ℤ) → k ≢ pos 0 → NormalForm p → common_factor (scaled k p) ≡ nat_abs k
+    factor_size {p} k g n = factor_scaled k p g ∙ ap (λ (c : ℕ). nat_abs k * c) n.no_common_factor ∙ mul-one (nat_abs k)
+
+    sizes : nat_abs a ≡ nat_abs b
+    sizes = sym (factor_size a f m) ∙ ap common_factor r.same ∙ factor_size b r.right_not_zero n
+
+    leadings : a *ℤ leading p ≡ b *ℤ leading q
+    leadings = sym (leading_scaled a p f) ∙ ap leading r.same ∙ leading_scaled b q r.right_not_zero
+
+    leading_sizes : nat_abs (leading p) ≡ nat_abs (leading q)
+    leading_sizes =
+        eq_of_mul-eq-mul_left (nat_abs a) (nat_abs_positive f) (nat_abs (leading p)) (nat_abs (leading q))
+        (sym (nat_abs-* a (leading p)) ∙ ap nat_abs leadings ∙ nat_abs-* b (leading q)
+        ∙ ap (λ (c : ℕ). c * nat_abs (leading q)) (sym sizes))
+
+    same_leading : leading p ≡ leading q
+    same_leading =
+        sym (pos_nat_abs_of-≤ℤ (≤ℤ_of-<ℤ m.positive)) ∙ ap pos leading_sizes ∙ pos_nat_abs_of-≤ℤ (≤ℤ_of-<ℤ n.positive)
+
+    a≡b : a ≡ b
+    a≡b =
+        *ℤ_cancel (leading q) (λ e. ≢-of-<ℤ n.positive (sym e))
+        (*ℤ_comm (leading q) a ∙ ap (λ c. a *ℤ c) (sym same_leading) ∙ leadings ∙ *ℤ_comm b (leading q))
 
 pub normal_of_aligned : {p q : Point} → ¬ Zero p → ¬ Zero q → Aligned p q → normal p ≡ normal q
 normal_of_aligned {p} {q} f g r =
@@ -157,7 +175,7 @@ pub normal_forms_equal : {p q : Point} → NormalForm p → NormalForm q → Pro
 normal_forms_equal m n r =
     normal_form_unique m n (proportional_aligned (normal_form_not_zero m) (normal_form_not_zero n) r)
 
--- ---- 0 and infinity
+-- ---- 0, and the sizes
 
 zero_quotient : (k : ℤ) → quot_z (pos 0) k ≡ pos 0
 zero_quotient (pos k) = ap pos (zero-div k)
@@ -166,41 +184,19 @@ zero_quotient (negsuc k) = ap (λ (n : ℕ). neg_ℤ (pos n)) (zero-div (suc k))
 quotient_of_zero : {m : ℤ} (k : ℤ) → m ≡ pos 0 → quot_z m k ≡ pos 0
 quotient_of_zero k e = ap (λ m. quot_z m k) e ∙ zero_quotient k
 
-pub normal_of_zero : {p : Point} → Zero p → normal p ≡ p
-unfolding normal over
-normal_of_zero {p} (a, b, c) =
-    same_point (quotient_of_zero s a ∙ sym a) (quotient_of_zero s b ∙ sym b) (quotient_of_zero s c ∙ sym c)
-  where
-    s : ℤ
-    s = signed_factor p
-
 -- a point at infinity stays there
-pub at_infinity_normal : (t : Direction) → at_infinity (normal_direction t) ≡ normal (at_infinity t)
-unfolding at_infinity normal_direction normal over
-at_infinity_normal t = same_point refl refl (sym (zero_quotient (signed_factor (at_infinity t))))
+pub normal_at_infinity : (p : Point) → p.z ≡ pos 0 → (normal p).z ≡ pos 0
+unfolding normal over
+normal_at_infinity p e = quotient_of_zero (signed_factor p) e
 
--- ---- in the paper's words
+pub normal_size_x : (p : Point) → nat_abs (normal p).x ≤ nat_abs p.x
+unfolding normal over
+normal_size_x p = quotient_size p.x (signed_factor p)
 
-pub normal_is_the_one : NormalIsTheOne
-unfolding NormalIsTheOne
-normal_is_the_one = (
-  λ p n f. (is_normal, λ e. subst (NormalFormOf p) (sym e) (has_normal f)),
-  λ p. normal_of_zero,
-  at_infinity_normal,
-)
-  where
-    has_normal : {p : Point} → ¬ Zero p → NormalFormOf p (normal p)
-    has_normal {p} f =
-        record {
-          normal_form = normal_is_normal_form f;
-          factor = signed_factor p;
-          factor_not_zero = signed_factor_not_zero f;
-          multiple = sym (factor_times_normal p);
-        }
+pub normal_size_y : (p : Point) → nat_abs (normal p).y ≤ nat_abs p.y
+unfolding normal over
+normal_size_y p = quotient_size p.y (signed_factor p)
 
-    is_normal : {p n : Point} → NormalFormOf p n → n ≡ normal p
-    is_normal m =
-        sym
-        (ap normal m.multiple
-        ∙ normal_scaled m.factor m.factor_not_zero (normal_form_not_zero m.normal_form)
-        ∙ normal_of_normal_form m.normal_form)
+pub normal_size_z : (p : Point) → nat_abs (normal p).z ≤ nat_abs p.z
+unfolding normal over
+normal_size_z p = quotient_size p.z (signed_factor p)

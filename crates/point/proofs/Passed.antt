@@ -1,39 +1,49 @@
--- A point whose numbers are handed to a call one by one is read back from their bits; and so are the greatest common divisors of sizes.
--- Assumes nothing.
-use mathlib.Core.Path.{◌≡◌, refl, sym, ap, ap₂, ◌∙◌}
-use mathlib.Core.Logic.{◌≢◌}
-use Prim.Native.Nat.{ℕ, zero, suc, ◌<◌}
-use native.Mathlib.Nat.{zero-lt-suc}
-use native.Mathlib.Omega.{arith}
-use lib.IntN.{ℤ, pos, negsuc}
+-- A signed number handed to a call is read back from its bits: what the call promises of the number read holds of the number itself,
+-- since it fits. Assumes nothing.
+use mathlib.Core.Path.{◌≡◌, ap, ap₂, ◌∙◌}
+use mathlib.Core.Bool.{Bool, ◌&&◌, not}
+use Prim.Native.Nat.{ℕ}
+use lib.IntN.{ℤ, pos, nat_abs}
+use lib.Signed.{lt_z}
 use mir.Syntax.{w64}
 use mir.Val.{SFits, to_z, of_z}
 use mir.Facts.{to_z-of_z}
 use borrow.Author.Rules.{sfits_of}
-use Rattle.whole.proofs.Passed.{passed_size}
 use Rattle.number.specs.Gcd.{gcd_of}
-use Rattle.point.specs.declared.Point.{Point}
-use Rattle.point.proofs.Vector.{same_point}
+use Rattle.point.specs.Paper.{within, is_zero}
 
--- a divisor that is not 0 has other bits
-pub bits_not_zero : {n : ℤ} → SFits w64 n → n ≢ pos 0 → 0 < of_z w64 n
-bits_not_zero {n = pos zero} h f = absurd (f refl)
-bits_not_zero {n = pos (suc n)} h f = zero-lt-suc n
-bits_not_zero {n = negsuc n} h f = omega (arith, h.sfits)
+pub passed : {A : Type 0} (f : ℤ → A) {n : ℤ} {r : A} → SFits w64 n → r ≡ f (to_z w64 (of_z w64 n)) → r ≡ f n
+passed f h e = e ∙ ap f (to_z-of_z h)
 
--- only 0 has the bits 0
-pub zero_of_bits : {n : ℤ} → SFits w64 n → of_z w64 n ≡ 0 → n ≡ pos 0
-zero_of_bits h e = sym (to_z-of_z h) ∙ ap (to_z w64) e
+pub passed_within : (limit : ℕ) (n : ℤ) {r : Bool} → SFits w64 n → r ≡ within limit (to_z w64 (of_z w64 n)) → r ≡ within limit n
+passed_within limit n = passed (within limit)
 
--- the three numbers handed over one by one: what is read back from their bits is the point
-abbrev pub stored : Point → Point
-stored p = record { x = to_z w64 (of_z w64 p.x); y = to_z w64 (of_z w64 p.y); z = to_z w64 (of_z w64 p.z) }
+pub passed_zero : (n : ℤ) {r : Bool} → SFits w64 n → r ≡ is_zero (to_z w64 (of_z w64 n)) → r ≡ is_zero n
+passed_zero n = passed is_zero
 
-pub stored_is : (p : Point) → SFits w64 p.x → SFits w64 p.y → SFits w64 p.z → stored p ≡ p
-stored_is p f g h = same_point (to_z-of_z f) (to_z-of_z g) (to_z-of_z h)
+pub passed_size : (n : ℤ) {r : ℕ} → SFits w64 n → r ≡ nat_abs (to_z w64 (of_z w64 n)) → r ≡ nat_abs n
+passed_size n = passed nat_abs
 
 pub passed_gcd : (m n : ℕ) {a b r : ℕ} → r ≡ gcd_of a b → a ≡ m → b ≡ n → r ≡ gcd_of m n
 passed_gcd m n e p q = e ∙ ap₂ gcd_of p q
 
 -- for greatest common divisors of sizes
 pub ruleset factors = (passed_gcd, passed_size, sfits_of)
+
+pub passed_all :
+    (limit : ℕ) (x y z : ℤ) {r : Bool} → SFits w64 x → SFits w64 y → SFits w64 z →
+    r ≡ within limit (to_z w64 (of_z w64 x)) && within limit (to_z w64 (of_z w64 y)) && within limit (to_z w64 (of_z w64 z)) →
+    r ≡ within limit x && within limit y && within limit z
+passed_all limit x y z f g h e =
+    e ∙ rw (to_z-of_z f, to_z-of_z g, to_z-of_z h)
+
+pub positive_test : (m n : ℤ) → SFits w64 m → m ≡ n → lt_z (pos 0) (to_z w64 (of_z w64 m)) ≡ lt_z (pos 0) n
+positive_test m n f e = ap (lt_z (pos 0)) (to_z-of_z f ∙ e)
+
+pub both : (p q r s : Bool) → p ≡ r → q ≡ s → p && q ≡ r && s
+both p q r s = ap₂ ◌&&◌
+
+pub denied : (p q : Bool) → p ≡ q → not p ≡ not q
+denied p q = ap not
+
+pub ruleset tested = (passed_within, passed_zero, passed_all, positive_test, both, denied, sfits_of)

@@ -3,15 +3,15 @@
 use mathlib.Core.Path.{◌≡◌, sym, ap, ap₂, ◌∙◌, subst}
 use mathlib.Core.Logic.{◌≢◌}
 use native.Mathlib.Nat.{suc-ne-zero}
-use lib.IntN.{ℤ, pos, nat_abs, ◌+ℤ◌, ◌*ℤ◌, *ℤ_comm, zero-*ℤ}
-use Rattle.basic.proofs.Tests.{by_test}
-use Rattle.whole.specs.Tests.{is_zero}
-use Rattle.whole.proofs.Tests.{is_zero_iff, not_zero_of_false}
+use lib.IntN.{ℤ, pos, nat_abs, ◌+ℤ◌, ◌*ℤ◌, ℤ_discrete, *ℤ_comm, zero-*ℤ}
 use Rattle.whole.proofs.Laws.{one-*ℤ, *ℤ_assoc, *ℤ_swap_middle}
 use Rattle.whole.proofs.Products.{*ℤ_cancel}
 use Rattle.whole.proofs.Cancel.{other_factor_zero, product_not_zero}
-pub use Rattle.point.specs.Normal.{scaled, Zero}
 use Rattle.point.specs.declared.Point.{Point}
+
+-- k·P
+abbrev pub scaled : ℤ → Point → Point
+scaled k p = record { x = k *ℤ p.x; y = k *ℤ p.y; z = k *ℤ p.z }
 
 -- αP + βT
 abbrev pub line : ℤ → Point → ℤ → Point → Point
@@ -48,21 +48,34 @@ cancel_scaled k f e =
 
 -- ---- the zero vector
 
+abbrev pub Zero : Point → Type 0
+Zero p = (p.x ≡ pos 0) × (p.y ≡ pos 0) × (p.z ≡ pos 0)
+
 pub data SomeNotZero (p : Point) : Type 0 where
   x_not_zero : p.x ≢ pos 0 → SomeNotZero p
   y_not_zero : p.y ≢ pos 0 → SomeNotZero p
   z_not_zero : p.z ≢ pos 0 → SomeNotZero p
 
 pub some_not_zero : {p : Point} → ¬ Zero p → SomeNotZero p
-some_not_zero {p} f =
-    by_test (is_zero p.x)
-    (λ a. by_test (is_zero p.y)
-    (λ b. z_not_zero λ c. f (is_zero_iff.0 a, is_zero_iff.0 b, c))
-    (λ b. y_not_zero (not_zero_of_false b)))
-    (λ a. x_not_zero (not_zero_of_false a))
+some_not_zero {p} f = by_x (ℤ_discrete p.x (pos 0))
+  where
+    by_z : p.x ≡ pos 0 → p.y ≡ pos 0 → Dec (p.z ≡ pos 0) → SomeNotZero p
+    by_z a b (yes c) = absurd (f (a, b, c))
+    by_z a b (no c) = z_not_zero c
+
+    by_y : p.x ≡ pos 0 → Dec (p.y ≡ pos 0) → SomeNotZero p
+    by_y a (yes b) = by_z a b (ℤ_discrete p.z (pos 0))
+    by_y a (no b) = y_not_zero b
+
+    by_x : Dec (p.x ≡ pos 0) → SomeNotZero p
+    by_x (yes a) = by_y a (ℤ_discrete p.y (pos 0))
+    by_x (no a) = x_not_zero a
 
 pub zero_scaled : {k : ℤ} (p : Point) → k ≡ pos 0 → Zero (scaled k p)
-zero_scaled p e = rw e (zero-*ℤ p.x, zero-*ℤ p.y, zero-*ℤ p.z)
+zero_scaled {k} p e = (vanishes p.x, vanishes p.y, vanishes p.z)
+  where
+    vanishes : (m : ℤ) → k *ℤ m ≡ pos 0
+    vanishes m = ap (λ c. c *ℤ m) e ∙ zero-*ℤ m
 
 pub zero_of_scaled : {k : ℤ} {p : Point} → k ≢ pos 0 → Zero (scaled k p) → Zero p
 zero_of_scaled f (a, b, c) = (other_factor_zero f a, other_factor_zero f b, other_factor_zero f c)
@@ -96,14 +109,20 @@ minor {a} {b} m n m' n' f g e e' =
 
 pub aligned_proportional : {p q : Point} → Aligned p q → Proportional p q
 aligned_proportional {p} {q} r =
-    let at_x : r.left *ℤ p.x ≡ r.right *ℤ q.x = ap (λ v. v.x) r.same in
-    let at_y : r.left *ℤ p.y ≡ r.right *ℤ q.y = ap (λ v. v.y) r.same in
-    let at_z : r.left *ℤ p.z ≡ r.right *ℤ q.z = ap (λ v. v.z) r.same in
     record {
       x_y = minor p.x q.x p.y q.y r.left_not_zero r.right_not_zero at_x at_y;
       x_z = minor p.x q.x p.z q.z r.left_not_zero r.right_not_zero at_x at_z;
       y_z = minor p.y q.y p.z q.z r.left_not_zero r.right_not_zero at_y at_z;
     }
+  where
+    at_x : r.left *ℤ p.x ≡ r.right *ℤ q.x
+    at_x = ap (λ v. v.x) r.same
+
+    at_y : r.left *ℤ p.y ≡ r.right *ℤ q.y
+    at_y = ap (λ v. v.y) r.same
+
+    at_z : r.left *ℤ p.z ≡ r.right *ℤ q.z
+    at_z = ap (λ v. v.z) r.same
 
 -- by a number of q and the number of p in the same place
 aligned_by : {p q : Point} (a b : ℤ) → a ≢ pos 0 → ¬ Zero q → scaled b p ≡ scaled a q → Aligned p q

@@ -1,4 +1,4 @@
-pub mod Verdict
+pub mod Paper
 pub mod Normal
-pub mod Sizes
 pub mod Legal
+pub mod Sizes

@@ -1,5 +1,6 @@
 -- The sizes of a point's numbers and of a line's. Assumes nothing.
 use Rattle.std.specs.Prelude.{ℕ, ◌≤◌, nat_abs}
+use Rattle.point.specs.Paper.{direction_limit}
 use Rattle.point.specs.declared.Point.{Point}
 
 -- each number of the point is at most n
@@ -8,8 +9,8 @@ pub record PointWithin (n : ℕ) (p : Point) : Type 0 where
   pub y_within : nat_abs p.y ≤ n
   pub z_within : nat_abs p.z ≤ n
 
--- T, a direction (z = 0) or a trial line (z = 1), each of x, y at most n
-pub record LineWithin (n : ℕ) (t : Point) : Type 0 where
-  pub x_within : nat_abs t.x ≤ n
-  pub y_within : nat_abs t.y ≤ n
+-- T, a direction (z = 0) or a trial line (z = 1)
+pub record LineWithin (t : Point) : Type 0 where
+  pub x_within : nat_abs t.x ≤ direction_limit
+  pub y_within : nat_abs t.y ≤ direction_limit
   pub z_within : nat_abs t.z ≤ 1

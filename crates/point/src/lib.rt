@@ -1,11 +1,15 @@
 // Points and directions, and their normal forms.
-ghost use Rattle.std.specs.Prelude.{◌≡◌, ◌≢◌, pos};
-ghost use Rattle.point.specs.Normal.{common_factor, leading, signed, over, rest, largest, normal, at_infinity, normal_direction};
-ghost use Rattle.point.specs.Legal.{is_normal, is_base, is_target, is_direction, point_in_limit};
+ghost use Rattle.std.specs.Prelude.{◌≡◌};
+ghost use Rattle.point.specs.Normal.{common_factor, leading, signed, over, largest, normal_within, normal_direction_within};
+ghost use Rattle.point.specs.Paper.{within, point_in_limit, direction_in_limit};
+ghost use Rattle.point.specs.Legal.{is_normal, is_base, is_target, is_direction};
 ghost use Rattle.point.specs.Sizes.{PointWithin};
 
+use crate::paper::{DIRECTION_LIMIT, POINT_LIMIT};
 use number::euclid::gcd;
-use paper::{BASE_LIMIT, TARGET_LIMIT};
+
+pub mod paper;
+pub mod size;
 
 // A point: three whole numbers, up to a common factor.
 #[derive(Drop)]
@@ -22,7 +26,17 @@ pub struct Direction {
     pub v: i64,
 }
 
+// Whether n has a negation, as all but -2⁶³ have: one comparison.
+fn has_negation(n: i64) -> bool
+    ensures { result ≡ within largest n }
+{
+    n > i64::MIN
+}
+
 impl Point {
+    // The triple that is no point.
+    pub const ZERO: Point = Point { x: 0, y: 0, z: 0 };
+
     // The three trial lines.
     pub const FIRST_LINE: Point = Point { x: 0, y: 0, z: 1 };
 
@@ -30,18 +44,19 @@ impl Point {
 
     pub const THIRD_LINE: Point = Point { x: 0, y: 1, z: 1 };
 
-    // The normal form of (x, y, z), none of them -2⁶³, which has no negation; (0, 0, 0) stays. Some twenty steps and two greatest
-    // common divisors.
+    // The normal form of (x, y, z). Some thirty steps and two greatest common divisors.
     pub fn normal(x: i64, y: i64, z: i64) -> Point
-        requires { PointWithin largest (record { x = x; y = y; z = z }) }
-        ensures { result ≡ normal (record { x = x; y = y; z = z }) }
+        ensures { result ≡ normal_within (record { x = x; y = y; z = z }) }
     {
-        let p = Point { x, y, z };
-        let n = p.divisor();
-        if n == 0 { p } else { p.over(n) }
+        if has_negation(x) & has_negation(y) & has_negation(z) {
+            let p = Point { x, y, z };
+            p.over(p.divisor())
+        } else {
+            Point::ZERO
+        }
     }
 
-    // The greatest common divisor of the three numbers: two greatest common divisors.
+    // Two greatest common divisors.
     fn common_factor(self) -> u64
         ensures { result ≡ common_factor self }
     {
@@ -73,11 +88,14 @@ impl Point {
         if self.leading() < 0 { -factor } else { factor }
     }
 
-    // The three numbers over n, exact where n divides them: three divisions.
-    pub fn over(self, n: i64) -> Point
-        requires { PointWithin largest self × (n ≢ pos 0) }
+    // Three divisions, exact where n divides the three numbers.
+    fn over(self, n: i64) -> Point
+        requires { PointWithin largest self }
         ensures { result ≡ over n self }
     {
+        if n == 0 {
+            return Point::ZERO;
+        }
         let Point { x, y, z } = self;
         Point {
             x: x / n,
@@ -86,63 +104,55 @@ impl Point {
         }
     }
 
-    // What is left of the three numbers over n: three divisions.
-    pub fn rest(self, n: i64) -> Point
-        requires { PointWithin largest self × (n ≢ pos 0) }
-        ensures { result ≡ rest n self }
+    // Six comparisons.
+    fn in_limit(self) -> bool
+        ensures { result ≡ point_in_limit self }
     {
-        let Point { x, y, z } = self;
-        Point {
-            x: x % n,
-            y: y % n,
-            z: z % n,
-        }
+        size::all_within(self.x, self.y, self.z, POINT_LIMIT)
     }
 
-    // Whether each number is at most the limit in size: twelve steps.
-    fn in_limit(self, limit: u64) -> bool
-        ensures { result ≡ point_in_limit limit self }
-    {
-        whole::all_within(self.x, self.y, self.z, limit)
-    }
-
-    // Whether the point is in normal form: two greatest common divisors.
+    // Two greatest common divisors.
     fn is_normal(self) -> bool
         ensures { result ≡ is_normal self }
     {
         (self.common_factor() == 1) & (self.leading() > 0)
     }
 
-    // Whether the point may be a base: some twenty steps and two greatest common divisors.
+    // Eleven comparisons and two greatest common divisors.
     pub fn is_base(self) -> bool
         ensures { result ≡ is_base self }
     {
-        self.in_limit(BASE_LIMIT) & self.is_normal() & (self.z > 0)
+        self.is_target() & (self.z > 0)
     }
 
-    // Whether the point may be a target: some twenty steps and two greatest common divisors.
+    // Ten comparisons and two greatest common divisors.
     pub fn is_target(self) -> bool
         ensures { result ≡ is_target self }
     {
-        self.in_limit(TARGET_LIMIT) & self.is_normal()
+        self.in_limit() & self.is_normal()
     }
 }
 
 impl Direction {
     // The normal form of (u, v), that of the point (u, v, 0) at infinity, at the same cost.
     pub fn normal(u: i64, v: i64) -> Direction
-        requires { PointWithin largest (at_infinity (record { u = u; v = v })) }
-        ensures { result ≡ normal_direction (record { u = u; v = v }) }
+        ensures { result ≡ normal_direction_within (record { u = u; v = v }) }
     {
         let p = Point::normal(u, v, 0);
         Direction { u: p.x, v: p.y }
     }
 
-    // Whether the direction is not (0, 0) and each number is at most the limit in size: ten steps.
-    pub fn is_direction(self, limit: u64) -> bool
-        ensures { result ≡ is_direction limit self }
+    // Four comparisons.
+    fn in_limit(self) -> bool
+        ensures { result ≡ direction_in_limit self }
     {
-        !(whole::is_zero(self.u) & whole::is_zero(self.v))
-            & (whole::within(self.u, limit) & whole::within(self.v, limit))
+        size::within(self.u, DIRECTION_LIMIT) & size::within(self.v, DIRECTION_LIMIT)
+    }
+
+    // Six comparisons.
+    pub fn is_direction(self) -> bool
+        ensures { result ≡ is_direction self }
+    {
+        !(size::is_zero(self.u) & size::is_zero(self.v)) & self.in_limit()
     }
 }

@@ -1,3 +1,5 @@
+pub mod Buffer
+pub mod Decimal
 pub mod Sizes
-pub mod Refusals
+pub mod RowTells
 pub mod Promise

@@ -1,51 +1,41 @@
--- A row has at most 40 bytes: solve's points are within the limit, so that their numbers have nine digits at most, its
--- primes have nine digits at most, and there are no refusals above 10 here. Assumes nothing.
-use mathlib.Core.List.{List}
+-- A row has at most 40 bytes: solve's points are within the limit, so that their numbers have nine digits at most, its primes have nine
+-- digits at most, and there are no refusals above 10 here. Assumes nothing.
 use mathlib.Core.Path.{◌≡◌, refl}
-use Prim.Native.Nat.{ℕ, suc, ◌^◌, ◌≤◌, ◌<◌}
+use mathlib.Core.Option.{Option, some, none}
+use Prim.Native.Nat.{suc, ◌^◌, ◌≤◌, ◌<◌}
 use native.Mathlib.Nat.{lt_of_le_of_lt}
 use native.Mathlib.Omega.{arith}
 use lib.Dec.{lit<}
 use lib.IntN.{ℤ, pos, negsuc, nat_abs}
 use lib.ListN.{length, length-append}
-use Rattle.paper.specs.Limits.{base_limit, buffer_limit}
-use Rattle.paper.specs.Answers.{Given, given, refused, point, none_by_sign_lem, none_by_prime, refusal}
-use Rattle.point.specs.Verdict.{Verdict}
+use Rattle.point.specs.Paper.{Verdict, point, none_by_sign_lem, none_by_prime, refusal, point_limit}
 use Rattle.point.specs.Sizes.{PointWithin}
 use Rattle.conic.specs.declared.conic.Conic.{Conic}
 use Rattle.solve.specs.Solve.{solve_of}
-use Rattle.solve.proofs.Answers.{point_fits, prime_below}
-use Rattle.solve.proofs.Refusals.{refusal_at_most}
+use Rattle.solve.proofs.Answers.{refusal_at_most, point_fits, prime_below}
 use Rattle.row_reader.specs.Reading.{read_row}
-use Rattle.row_reader.specs.Theorems.{ReadCause, not_six_numbers, ReadRefusesExactly}
-use Rattle.row_reader.proofs.Grammar.{read_refuses_exactly}
-use Rattle.row_writer.specs.Writing.{signed_decimal, row_text}
-use Rattle.row_writer.proofs.Decimal.{decimal_length}
-use Rattle.row.specs.Row.{verdict_on, row_of}
+use Rattle.row.specs.Writing.{decimal, signed_decimal, row_text}
+use Rattle.row.specs.Row.{verdict_on, row_of, buffer_limit}
 use Rattle.row.specs.Theorems.{RowsFit}
+use Rattle.row.proofs.Decimal.{decimal_length}
 
 -- what a row has room for
 abbrev Small : Verdict → Type 0
-Small (point p) = PointWithin base_limit p
+Small (point p) = PointWithin point_limit p
 Small none_by_sign_lem = Unit {0}
 Small (none_by_prime l) = l < 10 ^ 9
 Small (refusal n) = n < 10 ^ 2
 
-signed_length_lem : (n : ℤ) → nat_abs n ≤ base_limit → length (signed_decimal n) ≤ 10
+signed_length : (n : ℤ) → nat_abs n ≤ point_limit → length (signed_decimal n) ≤ 10
 unfolding signed_decimal
-signed_length_lem (pos n) h = omega (arith, decimal_length n 8 (omega arith))
-signed_length_lem (negsuc n) h = omega (arith, decimal_length (suc n) 8 (omega arith))
+signed_length (pos n) h = let nine : length (decimal n) ≤ 9 = decimal_length n 8 (omega arith) in omega arith
+signed_length (negsuc n) h = let nine : length (decimal (suc n)) ≤ 9 = decimal_length (suc n) 8 (omega arith) in omega arith
 
 row_length : (v : Verdict) → Small v → length (row_text v) ≤ buffer_limit
 unfolding row_text
 row_length (point p) small =
     simp length-append
-    (omega (
-      arith,
-      signed_length_lem p.x small.x_within,
-      signed_length_lem p.y small.y_within,
-      signed_length_lem p.z small.z_within,
-    ))
+    (omega (arith, signed_length p.x small.x_within, signed_length p.y small.y_within, signed_length p.z small.z_within))
 row_length none_by_sign_lem h = omega arith
 row_length (none_by_prime l) h = simp length-append (omega (arith, decimal_length l 8 h))
 row_length (refusal n) h = simp length-append (omega (arith, decimal_length n 1 h))
@@ -58,13 +48,11 @@ solve_small h none_by_sign_lem e = tt
 solve_small h (none_by_prime l) e = prime_below h l e
 solve_small h (refusal n) e = lt_of_le_of_lt (refusal_at_most h n e) (lit< tt)
 
-unread_small : {text : List ℕ} {n : ℕ} → ReadCause text n → n < 10 ^ 2
-unread_small (not_six_numbers h) = lit< tt
+verdict_small : (o : Option Conic) → Small (verdict_on o)
+unfolding verdict_on
+verdict_small none = lit< tt
+verdict_small (some h) = solve_small h (solve_of h) refl
 
 pub rows_fit : RowsFit
-unfolding RowsFit ReadRefusesExactly row_of verdict_on
-rows_fit text = row_length (verdict_on (read_row text)) (go (read_row text) refl)
-  where
-    go : (r : Given Conic) → read_row text ≡ r → Small (verdict_on r)
-    go (given h) e = solve_small h (solve_of h) refl
-    go (refused n) e = unread_small ((read_refuses_exactly text n).0 e)
+unfolding RowsFit row_of
+rows_fit text = row_length (verdict_on (read_row text)) (verdict_small (read_row text))

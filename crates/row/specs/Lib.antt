@@ -1,3 +1,5 @@
+pub mod Writing
+pub mod Buffer
+pub mod Texts
 pub mod Row
-pub mod Refusals
 pub mod Theorems

@@ -1,36 +1,38 @@
--- The row entry: refusal 11 before anything else; with a buffer of 40 bytes or more always one row, in which 10, 1 and
--- 2 are content; every byte after the row stays. Assumes nothing.
+-- The row entry: refusal 11 before anything else; with a buffer of 40 bytes or more always one row, in which 10, 1 and 2 are
+-- content; every byte after the row stays. Assumes nothing.
 use Rattle.std.specs.Prelude.{Bool, cond, List, ◌++◌, ◌≡◌, ℕ, ltb, length, drop}
-use Rattle.paper.specs.Limits.{buffer_limit}
-use Rattle.paper.specs.Answers.{Given, given, refused, refusal, written}
-use Rattle.paper.specs.declared.Written.{Written}
-use Rattle.point.specs.Verdict.{Verdict}
+use Rattle.std.proofs.Math.Option.{Option, some, none}
+use Rattle.point.specs.Paper.{Verdict, refusal, number}
 use Rattle.conic.specs.declared.conic.Conic.{Conic}
 use Rattle.solve.specs.Solve.{solve_of}
 use Rattle.row_reader.specs.Reading.{read_row}
-use Rattle.row_writer.specs.Writing.{row_text}
+use Rattle.row.specs.Writing.{row_text}
+use Rattle.row.specs.declared.Written.{Written}
+use Rattle.row.specs.declared.Written.TheVariants as Written
 
--- what solve answers to the conic that was read
-unfoldable pub verdict_on : Given Conic → Verdict
-verdict_on (given h) = solve_of h
-verdict_on (refused n) = refusal n
+abbrev pub buffer_limit : ℕ
+buffer_limit = 40
+
+unfoldable pub verdict_on : Option Conic → Verdict
+verdict_on none = refusal 10
+verdict_on (some h) = solve_of h
 
 -- the row that answers a text
 unfoldable pub row_of : List ℕ → List ℕ
 row_of text = row_text (verdict_on (read_row text))
 
+pub data RowAnswer : Type 0 where
+  row_length : ℕ → RowAnswer
+  no_row : ℕ → RowAnswer
+
+abbrev pub written : Written → RowAnswer
+written (Written.Length n) = row_length n
+written (Written.Refused r) = no_row (number r)
+
 unfoldable pub too_short : List ℕ → Bool
 too_short buffer = ltb (length buffer) buffer_limit
 
--- the length of what is written into a buffer, or 11
-abbrev pub length_in : List ℕ → List ℕ → Given ℕ
-length_in buffer bytes = cond (too_short buffer) (refused 11) (given (length bytes))
-
--- a buffer with these bytes first and the rest as it was, or all as it was
-abbrev pub buffer_with : List ℕ → List ℕ → List ℕ
-buffer_with buffer bytes = cond (too_short buffer) buffer (bytes ++ drop (length bytes) buffer)
-
 -- the promise of a text row: its answer, and the buffer as it is left
 pub record RowPromise (text before : List ℕ) (r : Written) (after : List ℕ) : Type 0 where
-  pub answer : written r ≡ length_in before (row_of text)
-  pub buffer : after ≡ buffer_with before (row_of text)
+  pub answer : written r ≡ cond (too_short before) (no_row 11) (row_length (length (row_of text)))
+  pub buffer : after ≡ cond (too_short before) before (row_of text ++ drop (length (row_of text)) before)

@@ -1,7 +1,7 @@
--- The rest of a number whose sign and first digits are read: what each further byte does to it, and what it is where it
--- ends. Assumes nothing.
+-- The rest of a number whose sign and first digits are read: what each further byte does to it, and what it is where it ends.
+-- Assumes nothing.
 use mathlib.Core.Path.{◌≡◌, refl}
-use mathlib.Core.Bool.{Bool, true, false, cond, ◌&&◌, not, and-false}
+use mathlib.Core.Bool.{Bool, true, false, cond, ◌&&◌, not}
 use mathlib.Core.List.{List, [], ◌∷◌}
 use mathlib.Core.Option.{Option, some, none}
 use Prim.Native.Nat.{ℕ, suc, ◌+◌, ◌-◌, ◌*◌, ◌≤◌}
@@ -10,8 +10,8 @@ use native.Mathlib.Omega.{arith}
 use lib.Dec.{eqb, leb}
 use lib.IntN.{ℤ, pos, neg_ℤ}
 use lib.ListN.{length}
-use borrow.Author.Tests.{eqb-true, eqb-false, le-leb, lt-leb, ne_eqb}
-use Rattle.basic.proofs.Tests.{by_test}
+use borrow.Author.Tests.{eqb-true, eqb-false, le-leb, lt-leb}
+use Rattle.point.proofs.Cases.{by_test}
 use Rattle.row_reader.specs.Reading.{minus, digit_zero, is_digit, all_digits, value_from, read_digits, signed_by, read_number}
 use Rattle.row_reader.specs.Steps.{Legal, current}
 use Rattle.row_reader.specs.declared.Place.{Place}
@@ -37,7 +37,11 @@ number_from negative d v (b ∷ text) =
 
 pub not_a_digit : (d v b : ℕ) (text : List ℕ) → is_digit b ≡ false → more_digits d v (b ∷ text) ≡ none
 unfolding more_digits all_digits
-not_a_digit d v b text e = simp (e, and-false)
+not_a_digit d v b text e = simp e (both (leb 1 (d + suc (length text)) && leb (d + suc (length text)) 6))
+  where
+    both : (t : Bool) → cond (t && false) (some (value_from v (b ∷ text))) none ≡ none
+    both true = refl
+    both false = refl
 
 pub seven_digits : (d v b : ℕ) (text : List ℕ) → 6 ≤ d → more_digits d v (b ∷ text) ≡ none
 unfolding more_digits
@@ -58,24 +62,30 @@ one_digit d v b text e = simp (e, longer)
 pub only_digits : (negative : Bool) (d v : ℕ) (text : List ℕ) → not negative && eqb d 0 ≡ false →
     number_from negative d v text ≡ signed_by (sign_of negative) (more_digits d v text)
 only_digits negative d v [] e = refl
-only_digits negative d v (b ∷ text) e = by_test (eqb b minus) (λ f. simp (f, e)) (λ f. simp f)
+only_digits negative d v (b ∷ text) e = by_test (eqb b minus) is_minus (λ f. simp f)
+  where
+    is_minus : eqb b minus ≡ true → number_from negative d v (b ∷ text) ≡ signed_by (sign_of negative) (more_digits d v (b ∷ text))
+    is_minus f = simp (f, e)
 
--- after a digit there is one
-pub begun : (negative : Bool) (d : ℕ) → not negative && eqb (d + 1) 0 ≡ false
-begun negative d = simp (ne_eqb (d + 1) 0 (λ e. omega arith), and-false)
+pub no_number : (negative : Bool) (d v b : ℕ) (text : List ℕ) → eqb b minus && not negative && eqb d 0 ≡ false →
+    more_digits d v (b ∷ text) ≡ none → none ≡ number_from negative d v (b ∷ text)
+unfolding signed_by
+no_number negative d v b text e f = simp (e, f)
 
 -- ---- a number that has ended
 
-pub ended :
-    (p : Place) → Legal p → eqb p.digits 0 ≡ false →
-    number_from p.negative p.digits p.value [] ≡ some (current p)
+pub ended : (p : Place) → Legal p → eqb p.digits 0 ≡ false → number_from p.negative p.digits p.value [] ≡ some (current p)
 unfolding more_digits all_digits value_from signed_by current
-ended p h e =
-    let some_digit : 1 ≤ p.digits = pos_of_ne-zero (eqb-false p.digits 0 e) in
-    simp (add-zero, le-leb 1 p.digits some_digit, le-leb p.digits 6 h.digits_within)
-    (by_test p.negative (λ f. simp f) (λ f. simp f))
+ended p h e = simp (add-zero, le-leb 1 p.digits (omega (arith, nonzero)), le-leb p.digits 6 h.digits_within) (by_sign p.negative)
+  where
+    nonzero : 1 ≤ p.digits
+    nonzero = pos_of_ne-zero (eqb-false p.digits 0 e)
 
-pub not_begun : (negative : Bool) (d v : ℕ) → eqb d 0 ≡ true → number_from negative d v [] ≡ none
+    by_sign : (t : Bool) → some (sign_of t p.value) ≡ some (cond t (neg_ℤ (pos p.value)) (pos p.value))
+    by_sign true = refl
+    by_sign false = refl
+
+pub not_begun : (negative : Bool) (d v : ℕ) → eqb d 0 ≡ true → none ≡ number_from negative d v []
 unfolding more_digits signed_by
 not_begun negative d v e = simp (eqb-true d 0 e)
 

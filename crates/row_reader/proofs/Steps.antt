@@ -1,15 +1,17 @@
--- Each step of the reader keeps a number within its digits: six digits at most are taken, and one more digit makes at
--- most ten times the number and nine. Assumes nothing.
+-- Each step of the reader keeps a number within its digits: six digits at most are taken, and one more digit makes at most ten
+-- times the number and nine. Assumes nothing.
+use mathlib.Core.Path.{◌≡◌, refl, sym, ap, ◌∙◌, subst}
+use mathlib.Core.Bool.{Bool, true, false, ◌&&◌}
 use Prim.Native.Nat.{ℕ, ◌+◌, ◌-◌, ◌*◌, ◌^◌, ◌≤◌, ◌<◌}
-use native.Mathlib.Nat.{lt_of_lt_of_le, pow-suc, pow-le-pow_right}
+use native.Mathlib.Nat.{pow-suc, pow-le-pow_right}
 use native.Mathlib.Numerals.{add-one}
 use native.Mathlib.Omega.{arith}
 use lib.Dec.{T, eqb, leb, leb→le, lit<}
-use lib.Ieee.Fits.{and_l, and_r}
-use borrow.Author.Tests.{leb-false}
-use Rattle.basic.proofs.Tests.{T-of-true, cond_cases}
+use borrow.Author.Tests.{leb-true, leb-false}
+use Rattle.point.proofs.Cases.{cond_cases}
+use Rattle.conic.specs.declared.conic.Conic.{Conic}
 use Rattle.row_reader.specs.Reading.{space, minus, digit_zero, digit_nine, is_digit}
-use Rattle.row_reader.specs.Steps.{Legal, LegalReader, fresh, after_space, after_minus, after_digit, step_of, reader_after}
+use Rattle.row_reader.specs.Steps.{Legal, LegalReader, fresh, current, pushed, after_space, after_minus, after_digit, step_of, reader_after}
 use Rattle.row_reader.specs.declared.Place.{Place}
 use Rattle.row_reader.specs.declared.Reader.{Reader}
 use Rattle.row_reader.specs.declared.Reader.TheVariants as Reader
@@ -20,24 +22,35 @@ pub record Digit (b : ℕ) : Type 0 where
 
 pub digit_of : (b : ℕ) → T (is_digit b) → Digit b
 unfolding is_digit
-digit_of b h = record {
-  low = leb→le digit_zero b (and_l (leb digit_zero b) _ h);
-  high = leb→le b digit_nine (and_r (leb digit_zero b) _ h);
-}
+digit_of b h = go (leb digit_zero b) refl h
+  where
+    go : (t : Bool) → leb digit_zero b ≡ t → T (t && leb b digit_nine) → Digit b
+    go true e h = record { low = leb-true digit_zero b e; high = leb→le b digit_nine h }
+    go false e h = absurd h
 
--- k digits at most hold less than the k-th power of ten
-pub value_below : {p : Place} (k : ℕ) → Legal p → p.digits ≤ k → p.value < 10 ^ k
-value_below k h few = lt_of_lt_of_le h.value_within (pow-le-pow_right (lit< tt) few)
+pub value_below : {p : Place} → Legal p → p.value < 1_000_000
+value_below {p} h =
+    let most : 10 ^ p.digits ≤ 10 ^ 6 = pow-le-pow_right (lit< tt) h.digits_within in
+    omega (arith, h.value_within)
+
+-- before another digit is taken there are five at most
+pub value_before_digit : {p : Place} → Legal p → p.digits < 6 → p.value < 100_000
+value_before_digit {p} h few =
+    let five : p.digits ≤ 5 = omega arith in
+    let most : 10 ^ p.digits ≤ 10 ^ 5 = pow-le-pow_right (lit< tt) five in
+    omega (arith, h.value_within)
 
 -- ---- each step
 
+fresh_legal : (h : Conic) (n : ℕ) → Legal (fresh h n)
+unfolding fresh
+fresh_legal h n = record { digits_within = omega arith; value_within = lit< tt }
+
 legal_after_space : (p : Place) → LegalReader (after_space p)
-unfolding after_space fresh
+unfolding after_space
 legal_after_space p =
     cond_cases LegalReader (eqb p.digits 0) (λ e. tt)
-    (λ e.
-    cond_cases LegalReader (leb 5 p.count) (λ e. tt)
-    (λ e. record { digits_within = omega arith; value_within = lit< tt }))
+    (λ e. cond_cases LegalReader (leb 5 p.count) (λ e. tt) (λ e. fresh_legal (pushed p.numbers (current p)) (p.count + 1)))
 
 legal_after_minus : (p : Place) → Legal p → LegalReader (after_minus p)
 unfolding after_minus
@@ -47,7 +60,9 @@ legal_after_minus p h =
     (λ e. record { digits_within = h.digits_within; value_within = h.value_within }) (λ e. tt))
 
 one_digit_more : (d v b : ℕ) → Digit b → v < 10 ^ d → v * 10 + (b - digit_zero) < 10 ^ (d + 1)
-one_digit_more d v b digit h = rw (add-one, pow-suc) (omega (arith, digit.high))
+one_digit_more d v b digit h =
+    subst (λ (n : ℕ). v * 10 + (b - digit_zero) < n) (sym (ap (λ (k : ℕ). 10 ^ k) (add-one d) ∙ pow-suc 10 d))
+    (omega (arith, digit.high))
 
 legal_after_digit : (p : Place) (b : ℕ) → Legal p → Digit b → LegalReader (after_digit p b)
 unfolding after_digit
@@ -63,7 +78,7 @@ unfolding step_of
 legal_step p b h =
     cond_cases LegalReader (eqb b space) (λ e. legal_after_space p)
     (λ e. cond_cases LegalReader (eqb b minus) (λ e. legal_after_minus p h)
-    (λ e. cond_cases LegalReader (is_digit b) (λ e. legal_after_digit p b h (digit_of b (T-of-true e))) (λ e. tt)))
+    (λ e. cond_cases LegalReader (is_digit b) (λ e. legal_after_digit p b h (digit_of b (subst T (sym e) tt))) (λ e. tt)))
 
 pub legal_after : (r : Reader) (b : ℕ) → LegalReader r → LegalReader (reader_after r b)
 legal_after Reader.Broken b h = tt

@@ -1,11 +1,7 @@
--- Reading a text row: six numbers, one space between, nothing else; each an optional "-" and one to six digits. Any
--- other text is refused by 10. Assumes nothing.
-use Rattle.std.specs.Prelude.{Bool, ◌&&◌, cond, List, [], ◌∷◌, ◌≡◌, ℕ, ◌+◌, ◌-◌, ◌*◌, leb, eqb, ℤ, pos, neg_ℤ, length, get_or}
+-- Reading a text row: six numbers, one space between, nothing else; each an optional "-" and one to six digits. Assumes nothing.
+use Rattle.std.specs.Prelude.{Bool, ◌&&◌, cond, List, [], ◌∷◌, ℕ, ◌+◌, ◌-◌, ◌*◌, leb, eqb, ℤ, pos, neg_ℤ, length, get_or}
 use Rattle.std.proofs.Math.Option.{Option, some, none}
-use Rattle.paper.specs.Answers.{Given, given, refused}
 use Rattle.conic.specs.declared.conic.Conic.{Conic}
-use Rattle.row_reader.specs.declared.Content.{Content}
-use Rattle.row_reader.specs.declared.Content.TheVariants as Content
 
 abbrev pub space : ℕ
 space = 32
@@ -66,12 +62,12 @@ unfoldable pub read_numbers : List (List ℕ) → Option (List ℤ)
 read_numbers [] = some []
 read_numbers (part ∷ parts) = and_then (read_number part) (read_numbers parts)
 
--- six of them, or 10
-unfoldable pub six : Option (List ℤ) → Given Conic
-six none = refused 10
+-- six of them
+unfoldable pub six : Option (List ℤ) → Option Conic
+six none = none
 six (some ns) =
     cond (eqb (length ns) 6)
-    (given (record {
+    (some (record {
       a = get_or ns 0 (pos 0);
       b = get_or ns 1 (pos 0);
       c = get_or ns 2 (pos 0);
@@ -79,16 +75,7 @@ six (some ns) =
       e = get_or ns 4 (pos 0);
       f = get_or ns 5 (pos 0);
     }))
-    (refused 10)
+    none
 
-unfoldable pub read_row : List ℕ → Given Conic
+unfoldable pub read_row : List ℕ → Option Conic
 read_row text = six (read_numbers (parts_at space text))
-
--- what each case of the answer stands for in the paper
-abbrev pub content_of : Content → Given Conic
-content_of Content.Broken = refused 10
-content_of (Content.Conic h) = given h
-
--- the promise of reading a text row
-pub record ReadPromise (text : List ℕ) (r : Content) : Type 0 where
-  pub as_defined : content_of r ≡ read_row text

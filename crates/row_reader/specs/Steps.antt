@@ -1,11 +1,13 @@
 -- Reading a text row byte by byte: the numbers that are whole, and the one that is being read. Assumes nothing.
 use Rattle.std.specs.Prelude.{Bool, cond, List, [], ◌∷◌, ℕ, ◌+◌, ◌-◌, ◌*◌, ◌^◌, ◌≤◌, ◌<◌, leb, eqb, ℤ, pos, neg_ℤ}
-use Rattle.paper.specs.Answers.{Given, given, refused}
+use Rattle.std.proofs.Math.Option.{Option, some, none}
 use Rattle.conic.specs.declared.conic.Conic.{Conic}
 use Rattle.row_reader.specs.Reading.{space, minus, digit_zero, is_digit}
 use Rattle.row_reader.specs.declared.Place.{Place}
 use Rattle.row_reader.specs.declared.Reader.{Reader}
 use Rattle.row_reader.specs.declared.Reader.TheVariants as Reader
+use Rattle.row_reader.specs.declared.Content.{Content}
+use Rattle.row_reader.specs.declared.Content.TheVariants as Content
 
 -- the number that is being read, as far as it has come
 unfoldable pub current : Place → ℤ
@@ -63,20 +65,17 @@ after_digit p b =
 
 unfoldable pub step_of : Place → ℕ → Reader
 step_of p b =
-    cond (eqb b space) (after_space p)
-    (cond (eqb b minus) (after_minus p) (cond (is_digit b) (after_digit p b) Reader.Broken))
+    cond (eqb b space) (after_space p) (cond (eqb b minus) (after_minus p) (cond (is_digit b) (after_digit p b) Reader.Broken))
 
 abbrev pub reader_after : Reader → ℕ → Reader
 reader_after Reader.Broken b = Reader.Broken
 reader_after (Reader.Reading p) b = step_of p b
 
-unfoldable pub end_of : Place → Given Conic
-end_of p =
-    cond (eqb p.digits 0) (refused 10)
-    (cond (eqb p.count 5) (given (pushed p.numbers (current p))) (refused 10))
+unfoldable pub end_of : Place → Option Conic
+end_of p = cond (eqb p.digits 0) none (cond (eqb p.count 5) (some (pushed p.numbers (current p))) none)
 
-abbrev pub reader_end : Reader → Given Conic
-reader_end Reader.Broken = refused 10
+abbrev pub reader_end : Reader → Option Conic
+reader_end Reader.Broken = none
 reader_end (Reader.Reading p) = end_of p
 
 unfoldable pub steps : Reader → List ℕ → Reader
@@ -91,3 +90,7 @@ pub record Legal (p : Place) : Type 0 where
 abbrev pub LegalReader : Reader → Type 0
 LegalReader Reader.Broken = Unit {0}
 LegalReader (Reader.Reading p) = Legal p
+
+abbrev pub content_of : Content → Option Conic
+content_of Content.Broken = none
+content_of (Content.Conic h) = some h

@@ -1,8 +1,8 @@
 // Reading a text row byte by byte: a constant number of steps for each.
 ghost use Rattle.std.specs.Prelude.{◌≡◌, T};
-ghost use Rattle.row_reader.specs.Reading.{is_digit, content_of, ReadPromise};
+ghost use Rattle.row_reader.specs.Reading.{read_row, is_digit};
 ghost use Rattle.row_reader.specs.Steps.{Legal, LegalReader, current, pushed, after_space, after_minus, after_digit};
-ghost use Rattle.row_reader.specs.Steps.{step_of, reader_after, end_of, reader_end};
+ghost use Rattle.row_reader.specs.Steps.{step_of, reader_after, end_of, reader_end, content_of};
 
 use conic::conic::Conic;
 
@@ -31,7 +31,7 @@ pub enum Reader {
     Reading(Place),
 }
 
-// What a whole row holds. Broken is refusal 10.
+// What a whole row holds.
 #[derive(Drop)]
 pub enum Content {
     Broken,
@@ -55,7 +55,7 @@ impl Place {
         value: 0,
     };
 
-    // The number that is being read, as far as it has come: a constant number of steps.
+    // The number that is being read, as far as it has come.
     fn number(self) -> i64
         requires { Legal self }
         ensures { result ≡ current self }
@@ -64,7 +64,7 @@ impl Place {
         if self.negative { -value } else { value }
     }
 
-    // The last six numbers, with the one that is being read: a constant number of steps.
+    // The last six numbers, with the one that is being read.
     fn numbers(self) -> Conic
         requires { Legal self }
         ensures { result ≡ pushed self.numbers (current self) }
@@ -80,7 +80,6 @@ impl Place {
         }
     }
 
-    // A space ends a number, of which the sixth has none after it: a constant number of steps.
     fn after_space(self) -> Reader
         requires { Legal self }
         ensures { result ≡ after_space self }
@@ -101,7 +100,6 @@ impl Place {
         })
     }
 
-    // A minus sign begins a number, before its digits and once: a constant number of steps.
     fn after_minus(self) -> Reader
         ensures { result ≡ after_minus self }
     {
@@ -116,7 +114,6 @@ impl Place {
         Reader::Reading(next)
     }
 
-    // A digit goes on with a number, up to six of them: a constant number of steps.
     fn after_digit(self, b: u8) -> Reader
         requires { Legal self × T (is_digit b) }
         ensures { result ≡ after_digit self b }
@@ -130,7 +127,6 @@ impl Place {
         Reader::Reading(next)
     }
 
-    // The row after one byte more: a constant number of steps.
     fn step(self, b: u8) -> Reader
         requires { Legal self }
         ensures { result ≡ step_of self b }
@@ -143,7 +139,6 @@ impl Place {
         }
     }
 
-    // What the row holds where it ends here: a constant number of steps.
     fn end(self) -> Content
         requires { Legal self }
         ensures { content_of result ≡ end_of self }
@@ -159,7 +154,6 @@ impl Place {
 }
 
 impl Reader {
-    // The row after one byte more, broken if it was: a constant number of steps.
     fn step(self, b: u8) -> Reader
         requires { LegalReader self }
         ensures { result ≡ reader_after self b }
@@ -170,7 +164,6 @@ impl Reader {
         place.step(b)
     }
 
-    // What the row holds where it ends here, nothing if it is broken: a constant number of steps.
     fn end(self) -> Content
         requires { LegalReader self }
         ensures { content_of result ≡ reader_end self }
@@ -184,7 +177,7 @@ impl Reader {
 
 // The six numbers of a text row: one step for each byte.
 pub fn read(text: &[u8]) -> Content
-    ensures { ReadPromise text.now result }
+    ensures { content_of result ≡ read_row text.now }
 {
     let mut reader = Reader::Reading(Place::START);
     let mut i = 0;

@@ -1,30 +1,30 @@
--- The bytes that a cutter holds: as many as its row has, at most 48; and the last row's answer, which is nothing where
--- none is held. Assumes nothing.
+-- The bytes that a cutter holds: as many as its row has, at most 48; and the last row's answer, which is nothing where none is held.
+-- Assumes nothing.
 use mathlib.Core.List.{List, [], ◌∷◌, append-nil}
-use mathlib.Core.Path.{◌≡◌}
+use mathlib.Core.Path.{◌≡◌, ap, sym, ◌∙◌}
 use Prim.Native.Nat.{ℕ, ◌≤◌, ◌<◌, min}
-use native.Mathlib.Nat.{le_of_lt, min-eq_left, min-eq_right}
+use native.Mathlib.Decide.{dec_le}
+use native.Mathlib.Nat.{min-eq_left, min-eq_right}
 use native.Mathlib.Omega.{arith}
-use lib.Dec.{ltb}
-use borrow.Author.Tests.{ltb-true, ltb-false, lt-ltb, le-ltb}
+use borrow.Author.Tests.{lt-ltb, le-ltb}
 use lib.ListN.{length, take, length-take}
 use lib.Seq.{take_all, take-length}
-use Rattle.basic.proofs.Tests.{by_test}
-use Rattle.paper.specs.declared.Refusal.TheVariants as Refusal
-use Rattle.paper.specs.Limits.{buffer_limit}
-use Rattle.paper.specs.declared.Written.{Written}
-use Rattle.paper.specs.declared.Written.TheVariants as Written
-use Rattle.row.specs.Row.{row_of, too_short, RowPromise}
+use Rattle.point.specs.declared.paper.Refusal.TheVariants as Refusal
+use Rattle.row.specs.Row.{row_of, buffer_limit, too_short, RowPromise}
+use Rattle.row.specs.declared.Written.{Written}
+use Rattle.row.specs.declared.Written.TheVariants as Written
 use Rattle.rows.specs.Cutter.{holding, held_text, finish_of, FinishPromise}
 use Rattle.rows.specs.Input.{answers, last_row}
 use Rattle.rows.specs.declared.Cutter.{Cutter}
 
 take_min : (n : ℕ) (l : List ℕ) → take (min n (length l)) l ≡ take n l
-take_min n l =
-    by_test (ltb n (length l)) (λ e. rw (min-eq_left (le_of_lt (ltb-true n (length l) e))))
-    (λ e.
-    let over = ltb-false n (length l) e in
-    rw (min-eq_right over, take-length, take_all n l over))
+take_min n l = go (dec_le n (length l))
+  where
+    go : Dec (n ≤ length l) → take (min n (length l)) l ≡ take n l
+    go (yes h) = rw (min-eq_left h)
+    go (no h) =
+        let over : length l ≤ n = omega arith in
+        ap (λ (k : ℕ). take k l) (min-eq_right over) ∙ take-length l ∙ sym (take_all n l over)
 
 pub held_is : (c : Cutter) → length c.held ≡ holding → take (min c.length holding) c.held ≡ held_text c
 unfolding held_text
@@ -41,22 +41,27 @@ last_row_lem (b ∷ text) h = append-nil (row_of (b ∷ text))
 
 -- ---- the last row
 
-pub finish_refused :
-    (c : Cutter) (before : List ℕ) → length before < buffer_limit →
-    FinishPromise c before (Written.Refused Refusal.Buffer) before
+pub finish_refused : (c : Cutter) (before : List ℕ) → length before < buffer_limit → FinishPromise c before (Written.Refused Refusal.Buffer) before
 unfolding too_short
-finish_refused c before h = record { answer = simp (lt-ltb _ _ h); buffer = simp (lt-ltb _ _ h) }
+finish_refused c before h = record {
+  answer = simp (lt-ltb _ _ h);
+  buffer = simp (lt-ltb _ _ h);
+}
 
-pub finish_nothing :
-    (c : Cutter) (before : List ℕ) → buffer_limit ≤ length before → c.length ≡ 0 →
-    FinishPromise c before (Written.Length 0) before
+pub finish_nothing : (c : Cutter) (before : List ℕ) → buffer_limit ≤ length before → c.length ≡ 0 → FinishPromise c before (Written.Length 0) before
 unfolding too_short finish_of held_text last_row answers
-finish_nothing c before h e = record { answer = simp (le-ltb _ _ h, e); buffer = simp (le-ltb _ _ h, e) }
+finish_nothing c before h e = record {
+  answer = simp (le-ltb _ _ h, e);
+  buffer = simp (le-ltb _ _ h, e);
+}
 
 pub finish_row :
-    {c : Cutter} {before : List ℕ} {r : Written} {left : List ℕ} → length c.held ≡ holding → (c.length ≡ 0 → ⊥) →
+    (c : Cutter) (before : List ℕ) (r : Written) (left : List ℕ) → length c.held ≡ holding → (c.length ≡ 0 → ⊥) →
     RowPromise (held_text c) before r left → FinishPromise c before r left
 unfolding finish_of
-finish_row {c} e n p =
+finish_row c before r left e n p =
     let f : finish_of c ≡ row_of (held_text c) = last_row_lem (held_text c) (omega (arith, held_size c e)) in
-    record { answer = rw f p.answer; buffer = rw f p.buffer }
+    record {
+      answer = rw f p.answer;
+      buffer = rw f p.buffer;
+    }

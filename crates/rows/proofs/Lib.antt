@@ -5,5 +5,4 @@ pub mod GoesOn
 pub mod Rest
 pub mod Holds
 pub mod Whole
-pub mod Refusals
 pub mod Promise

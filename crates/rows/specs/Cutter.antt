@@ -1,12 +1,10 @@
--- The row cutter, byte by byte: a byte is kept, a line feed has the kept row answered. It stops before a row for which
--- fewer than 40 bytes of room are left. It keeps no more than 48 bytes, and every cutter has a meaning, also one that
--- counts more than it holds: its row is then all that it holds. Assumes nothing.
+-- The row cutter, byte by byte: a byte is kept, a line feed has the kept row answered. It stops before a row for which fewer than 40
+-- bytes of room are left. It keeps no more than 48 bytes, and every cutter has a meaning, also one that counts more than it holds: its
+-- row is then all that it holds. Assumes nothing.
 use Rattle.std.specs.Prelude.{cond, List, [], ◌∷◌, ◌++◌, ◌≡◌, ℕ, ◌+◌, ◌-◌, eqb, ltb, length, take, drop, set, replicate}
-use Rattle.paper.specs.Answers.{written}
-use Rattle.paper.specs.Limits.{buffer_limit}
-use Rattle.paper.specs.declared.Written.{Written}
-use Rattle.row_writer.specs.Writing.{line_feed}
-use Rattle.row.specs.Row.{row_of, length_in, buffer_with}
+use Rattle.row.specs.Row.{row_of, buffer_limit, too_short, written, row_length, no_row}
+use Rattle.row.specs.Writing.{line_feed}
+use Rattle.row.specs.declared.Written.{Written}
 use Rattle.rows.specs.Input.{answers, last_row}
 use Rattle.rows.specs.declared.Cutter.{Cutter}
 use Rattle.rows.specs.declared.Fed.{Fed}
@@ -56,8 +54,7 @@ feed_of c (b ∷ piece) room =
 unfoldable pub finish_of : Cutter → List ℕ
 finish_of c = answers (last_row (held_text c))
 
--- the promise of feeding a piece: the cutter after it, how much was taken and how much written, and the buffer as it is
--- left
+-- the promise of feeding a piece: the cutter after it, how much was taken and how much written, and the buffer as it is left
 pub record FeedPromise (c : Cutter) (piece before : List ℕ) (r : Fed) (left : List ℕ) : Type 0 where
   pub cutter : r.cutter ≡ (feed_of c piece (length before)).cutter
   pub taken : r.taken ≡ (feed_of c piece (length before)).taken
@@ -65,8 +62,7 @@ pub record FeedPromise (c : Cutter) (piece before : List ℕ) (r : Fed) (left : 
   pub buffer :
       left ≡ (feed_of c piece (length before)).output ++ drop (length (feed_of c piece (length before)).output) before
 
--- the promise of the last row, as that of a text row: refusal 11 before anything else, and nothing written for an empty
--- row
+-- the promise of the last row, as that of a text row: refusal 11 before anything else, and nothing written for an empty row
 pub record FinishPromise (c : Cutter) (before : List ℕ) (r : Written) (left : List ℕ) : Type 0 where
-  pub answer : written r ≡ length_in before (finish_of c)
-  pub buffer : left ≡ buffer_with before (finish_of c)
+  pub answer : written r ≡ cond (too_short before) (no_row 11) (row_length (length (finish_of c)))
+  pub buffer : left ≡ cond (too_short before) before (finish_of c ++ drop (length (finish_of c)) before)

@@ -1,9 +1,9 @@
--- The answer to a whole input: its rows, cut at line feeds (a last row without one counts if not empty), each answered
--- by its row, one after another. Assumes nothing.
+-- The answer to a whole input: its rows, cut at line feeds (a last row without one counts if not empty), each answered by its row,
+-- one after another. Assumes nothing.
 use Rattle.std.specs.Prelude.{List, [], ◌∷◌, ◌++◌, ℕ}
 use Rattle.row_reader.specs.Reading.{parts_at}
-use Rattle.row_writer.specs.Writing.{line_feed}
 use Rattle.row.specs.Row.{row_of}
+use Rattle.row.specs.Writing.{line_feed}
 
 -- the last part counts if not empty
 unfoldable pub last_row : List ℕ → List (List ℕ)

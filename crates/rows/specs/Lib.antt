@@ -1,4 +1,3 @@
 pub mod Input
 pub mod Cutter
-pub mod Refusals
 pub mod Whole

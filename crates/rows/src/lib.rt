@@ -3,10 +3,10 @@ ghost use Rattle.std.specs.Prelude.{◌≡◌, min};
 ghost use Rattle.row.specs.Row.{RowPromise};
 ghost use Rattle.rows.specs.Cutter.{holding, new_cutter, keep, emptied, held_text, FeedPromise, FinishPromise};
 
-use paper::{BUFFER_LIMIT, Refusal, Written};
+use point::paper::Refusal;
+use row::{BUFFER_LIMIT, Written};
 
-// How much of a row is held: a right row has at most 47 bytes, so the first 48 of a longer one tell it from a right
-// one.
+// How much of a row is held: a right row has at most 47 bytes, so the first 48 of a longer one tell it from a right one.
 const HOLDING: usize = 48;
 
 const LINE_FEED: u8 = b'\n';
@@ -27,7 +27,7 @@ pub struct Fed {
 }
 
 impl Cutter {
-    // The cutter before the first byte of an input: one step for each byte that it can hold.
+    // Before the first byte of an input.
     pub fn new() -> Cutter
         ensures { result ≡ new_cutter }
     {
@@ -37,7 +37,7 @@ impl Cutter {
         }
     }
 
-    // The cutter with one byte more of its row, where it holds fewer than it can: a constant number of steps.
+    // One byte more of the row.
     fn keep(self, b: u8) -> Cutter
         ensures { result ≡ keep self b }
     {
@@ -51,7 +51,7 @@ impl Cutter {
         next
     }
 
-    // The cutter before the first byte of the next row: a constant number of steps.
+    // Before the first byte of the next row.
     fn emptied(self) -> Cutter
         ensures { result ≡ emptied self }
     {
@@ -60,7 +60,7 @@ impl Cutter {
         next
     }
 
-    // How many of the held bytes are the row's: one test.
+    // How many of the held bytes are the row's.
     fn size(self) -> usize
         ensures { result ≡ min self.length holding }
     {
@@ -69,7 +69,7 @@ impl Cutter {
     }
 }
 
-// Writes the row that answers what is held: what a row costs.
+// The row that answers what is held.
 fn answer(cutter: Cutter, out: &mut [u8]) -> Written
     ensures { RowPromise (held_text cutter) out.old result out.new }
 {
@@ -78,8 +78,8 @@ fn answer(cutter: Cutter, out: &mut [u8]) -> Written
     row::row(&held[..size], out)
 }
 
-// The answers to the rows that end in a piece, as far as the buffer has room for whole rows: one step for each byte of
-// the piece, and what a row costs for each line feed.
+// The answers to the rows that end in a piece, as far as the buffer has room for whole rows: one step for each byte of the piece, and
+// what a row costs for each line feed.
 pub fn feed(cutter: Cutter, piece: &[u8], out: &mut [u8]) -> Fed
     ensures { FeedPromise cutter piece.now out.old result out.new }
 {

@@ -1,149 +1,113 @@
--- Demand 2. Where −D is a square the point comes from infinity; elsewhere a point of the conic gives a solution of the
--- levelled equation and a solution gives a point, so what is known of that equation's answer is known of solve's.
--- Assumes nothing.
-use mathlib.Core.Path.{◌≡◌, refl, sym, ap, ◌∙◌}
-use mathlib.Core.Logic.{◌≢◌, ◌⊎◌, inl, inr, ⊎_elim, ◌↔◌}
-use Prim.Native.Nat.{ℕ, zero, suc, ◌≤◌, ◌<◌}
-use native.Mathlib.Nat.{suc-ne-zero, le_antisymm}
-use native.Mathlib.Omega.{arith}
+-- Demand 2. Where −D is a square the point comes from infinity; elsewhere a point of the conic gives a solution of the levelled equation
+-- and a solution gives a point, so what is known of that equation's answer is known of solve's. Assumes nothing.
+use mathlib.Core.Path.{◌≡◌, refl, sym, ap, subst, ◌∙◌}
+use mathlib.Core.Bool.{Bool, true, false, true≢false, cond}
+use mathlib.Core.Logic.{◌≢◌, ◌⊎◌, inl, inr}
+use Prim.Native.Nat.{ℕ, zero, suc}
 use lib.IntN.{ℤ, pos, negsuc, neg_ℤ, *ℤ-zero, ◌*ℤ◌}
-use lib.Signed.{◌<ℤ◌, clash_ℤ}
-use Rattle.basic.proofs.Tests.{by_test, fails, refutes, when, unless}
-use Rattle.whole.proofs.Order.{≤ℤ_of-<ℤ}
-use Rattle.paper.specs.Answers.{point, none_by_sign_lem, none_by_prime, refusal}
+use lib.Signed.{◌<ℤ◌}
+use Rattle.whole.proofs.Order.{≢-of-<ℤ}
+use Rattle.number.proofs.Least.{true_of_T, true_or_false, not_true_of_false}
 use Rattle.legendre.specs.Answer
 use Rattle.legendre.specs.Answer.{Chosen, LeastFailing}
+use Rattle.legendre.specs.Equation.{BoxSolution}
 use Rattle.legendre.specs.Outcome.{outcome_of}
 use Rattle.legendre.specs.declared.outcome.Triple.{Triple}
 use Rattle.legendre.specs.declared.outcome.Outcome.{Outcome}
 use Rattle.legendre.specs.declared.outcome.Outcome.TheVariants as Outcome
-use Rattle.legendre.specs.Equation.{OneSign, Positive}
-use Rattle.legendre.specs.Theorems.{Legendre}
 use Rattle.legendre.proofs.Answer as Legendre
-use Rattle.legendre.proofs.Legendre.{legendre}
-use Rattle.point.specs.Normal.{or_else, leading, normal, NormalForm}
+use Rattle.point.specs.Normal.{or_else, leading, normal}
+use Rattle.point.specs.Paper.{point_limit, Verdict, point, none_by_sign_lem, none_by_prime, refusal, is_zero}
 use Rattle.point.specs.Sizes.{PointWithin}
 use Rattle.point.specs.declared.Point.{Point}
-use Rattle.point.specs.Verdict.{Verdict}
 use Rattle.point.proofs.Normal.{signed_factor, factor_times_normal, normal_is_normal_form}
-use Rattle.point.proofs.Limits.{normal_within}
+use Rattle.point.proofs.Limits.{normal_within_lem}
+use Rattle.point.proofs.Tests.{is_zero_not}
 use Rattle.point.proofs.Vector.{Zero}
-use Rattle.conic.specs.Form.{G, D, drawn}
-use Rattle.conic.specs.Sizes.{ConicWithin}
+use Rattle.conic.specs.Form.{G, D, Δ, drawn}
+use Rattle.conic.specs.Base.{in_range}
+use Rattle.conic.specs.Sizes.{InLimit}
 use Rattle.conic.specs.declared.conic.Conic.{Conic}
 use Rattle.conic.proofs.Drawn.{drawn_on}
 use Rattle.conic.proofs.Form.{normal_on_iff}
 use Rattle.conic.proofs.Sizes.{in_limit}
-use Rattle.solve.specs.Demand2.{NonDegenerate, HasPoint, PointExactly, PointIsRight, OneSignEverywhere, SignExactly, LevelledBy, SquareDiscriminant, SquareHasPoint, SquareIsChosen, LevelExists, PointIsChosen, NeverRefused, SplitIsLevelled, SignByLevel, PrimeByLevel}
+use Rattle.solve.specs.Demand2.{NonDegenerate, HasPoint, PointExactly, RightPoint, PointIsRight, OneSignEverywhere, SignExactly, LevelledBy, PrimeIsTrue, SquareDiscriminant, SquareHasPoint, SquareIsChosen, LevelExists, PointIsChosen}
 use Rattle.solve.specs.Level.{level_of, primed, from_primed, carried_back}
-use Rattle.solve.specs.Sizes.{Limits}
 use Rattle.solve.specs.Solve.{is_square_number, start_at_infinity, trial_line, from_infinity, outcome_carried, solve_levelled, solve_non_degenerate, solve_of}
-use Rattle.solve.proofs.Infinity.{is_square_iff, start, starts, trial, drawn_z}
-use Rattle.solve.proofs.Levelling.{positive_not_zero, levellable, levelled_by_own, level, level_unique, levelled, down, up, w_not_zero, z_not_zero, g_positive}
+use Rattle.solve.proofs.Infinity.{is_square_iff, AtInfinity, start, starts, Trial, trial, drawn_z, start_within, drawn_within}
+use Rattle.solve.proofs.Levelling.{levellable, levelled_by_own, level, level_unique, levelled, down, up, w_not_zero, z_not_zero}
 use Rattle.solve.proofs.Sign.{not_square, sign_iff}
-use Rattle.solve.proofs.Sizes.{Enough, paper_enough, primed_within, from_primed_within, start_within, trial_within, drawn_within}
-use Rattle.solve.proofs.Refusals.{solve_legal, never_refused}
+use Rattle.solve.proofs.Sizes.{primed_within, from_primed_within}
 
 -- ---- the two ways of solve
 
+data Way (h : Conic) : Type 0 where
+  from_square : SquareDiscriminant h → solve_of h ≡ point (from_infinity h) → Way h
+  by_level : ¬ SquareDiscriminant h → solve_of h ≡ solve_levelled h → Way h
+
 not_refused : (h : Conic) → NonDegenerate h → solve_of h ≡ solve_non_degenerate h
-not_refused h ok = sym (solve_legal (record { in_range_lem = in_limit h ok.in_range_lem; not_degenerate = ok.not_zero }))
+unfolding solve_of
+not_refused h ok =
+    ap (λ b. cond b (cond (is_zero (Δ h)) (refusal 2) (solve_non_degenerate h)) (refusal 1)) (true_of_T (in_range h) ok.in_range_lem)
+    ∙ ap (λ b. cond b (refusal 2) (solve_non_degenerate h)) (is_zero_not {n = Δ h} ok.not_zero)
 
-square_or_not : (h : Conic) → SquareDiscriminant h ⊎ (¬ SquareDiscriminant h)
-square_or_not h =
-    by_test (is_square_number (neg_ℤ (D h))) (λ t. inl ((is_square_iff _).0 t)) (λ f. inr (refutes (is_square_iff _) f))
-
-from_square : (h : Conic) → NonDegenerate h → SquareDiscriminant h → solve_of h ≡ point (from_infinity h)
+way : (h : Conic) → NonDegenerate h → Way h
 unfolding solve_non_degenerate
-from_square h ok square = not_refused h ok ∙ sym (when _ _ ((is_square_iff (neg_ℤ (D h))).1 square))
+way h ok = by (true_or_false (is_square_number (neg_ℤ (D h))))
+  where
+    chosen : {b : Bool} → is_square_number (neg_ℤ (D h)) ≡ b → solve_of h ≡ cond b (point (from_infinity h)) (solve_levelled h)
+    chosen e = not_refused h ok ∙ ap (λ b. cond b (point (from_infinity h)) (solve_levelled h)) e
 
-by_level : (h : Conic) → NonDegenerate h → ¬ SquareDiscriminant h → solve_of h ≡ solve_levelled h
-unfolding solve_non_degenerate
-by_level h ok plain = not_refused h ok ∙ sym (unless _ _ (fails (is_square_iff (neg_ℤ (D h))) plain))
+    by : (is_square_number (neg_ℤ (D h)) ≡ true) ⊎ (is_square_number (neg_ℤ (D h)) ≡ false) → Way h
+    by (inl t) = from_square ((is_square_iff (neg_ℤ (D h))).0 t) (chosen t)
+    by (inr f) = by_level (λ square. not_true_of_false f ((is_square_iff (neg_ℤ (D h))).1 square)) (chosen f)
 
-pub not_square_where_prime :
-    {h : Conic} {l : ℕ} → NonDegenerate h → solve_of h ≡ none_by_prime l → ¬ SquareDiscriminant h
-not_square_where_prime {h} ok e square = suc-ne-zero 0 (cc (from_square h ok square))
+-- ---- verdicts are told apart
 
--- ---- what is carried back tells the outcome
+abbrev pub is_point : Verdict → Bool
+is_point (point p) = true
+is_point none_by_sign_lem = false
+is_point (none_by_prime l) = false
+is_point (refusal n) = false
+
+abbrev is_sign : Verdict → Bool
+is_sign (point p) = false
+is_sign none_by_sign_lem = true
+is_sign (none_by_prime l) = false
+is_sign (refusal n) = false
+
+abbrev point_or : Point → Verdict → Point
+point_or p (point q) = q
+point_or p none_by_sign_lem = p
+point_or p (none_by_prime l) = p
+point_or p (refusal n) = p
+
+abbrev prime_or : ℕ → Verdict → ℕ
+prime_or n (point q) = n
+prime_or n none_by_sign_lem = n
+prime_or n (none_by_prime l) = l
+prime_or n (refusal m) = n
 
 carried_sign : (h : Conic) (o : Outcome) → outcome_carried h o ≡ none_by_sign_lem → o ≡ Outcome.Sign
 unfolding outcome_carried
 carried_sign h Outcome.Sign e = refl
-carried_sign h (Outcome.Prime l) e = absurd (suc-ne-zero 0 (cc))
-carried_sign h (Outcome.Solution m) e = absurd (suc-ne-zero 0 (cc))
+carried_sign h (Outcome.Prime l) e = absurd (true≢false (sym (ap is_sign e)))
+carried_sign h (Outcome.Solution m) e = absurd (true≢false (sym (ap is_sign e)))
 
 carried_prime : (h : Conic) (o : Outcome) {l : ℕ} → outcome_carried h o ≡ none_by_prime l → o ≡ Outcome.Prime l
 unfolding outcome_carried
-carried_prime h Outcome.Sign e = absurd (suc-ne-zero 0 (cc))
-carried_prime h (Outcome.Prime l) e = cc
-carried_prime h (Outcome.Solution m) e = absurd (suc-ne-zero 0 (cc))
+carried_prime h Outcome.Sign e = absurd (true≢false (ap is_sign e))
+carried_prime h (Outcome.Prime l) e = ap Outcome.Prime (ap (prime_or 0) e)
+carried_prime h (Outcome.Solution m) e = absurd (true≢false (ap is_point e))
 
 carried_point : (h : Conic) (o : Outcome) {p : Point} → outcome_carried h o ≡ point p →
     (m : Triple) × (o ≡ Outcome.Solution m) × (p ≡ carried_back h (level_of h) m)
 unfolding outcome_carried
-carried_point h Outcome.Sign e = absurd (suc-ne-zero 0 (cc))
-carried_point h (Outcome.Prime l) e = absurd (suc-ne-zero 0 (cc))
-carried_point h (Outcome.Solution m) e = (m, refl, cc)
+carried_point h Outcome.Sign e = absurd (true≢false (sym (ap is_point e)))
+carried_point h (Outcome.Prime l) e = absurd (true≢false (sym (ap is_point e)))
+carried_point h (Outcome.Solution m) {p} e = (m, refl, sym (ap (point_or p) e))
 
--- ---- however D and aΔ are split
-
-module _ {h : Conic} {d₁ e₁ : ℤ} {s t : ℕ} {p g q : ℤ} (v : LevelledBy h d₁ e₁ s t p g q) (ok : NonDegenerate h) where
-  solved_as : ¬ SquareDiscriminant h → solve_of h ≡ outcome_carried h (outcome_of p g q)
-  unfolding solve_levelled
-  solved_as plain = rw (by_level h ok plain, level_unique v)
-
-  chosen_and_carried : {at : Point} → ¬ SquareDiscriminant h → solve_of h ≡ point at →
-      (m : Triple) × Chosen p g q m × (at ≡ carried_back h (level v) m)
-  unfolding Answer.SolutionIsChosen
-  chosen_and_carried plain e =
-      let (m, o, back) = carried_point h (outcome_of p g q) (sym (solved_as plain) ∙ e) in
-      (m, Legendre.solution_is_chosen p g q m (levelled v) o, rw (← level_unique v) back)
-
-  pub prime_least_failing : {l : ℕ} → solve_of h ≡ none_by_prime l → LeastFailing p g q l
-  unfolding Answer.PrimeIsLeastFailing
-  prime_least_failing {l} e =
-      Legendre.prime_is_least_failing p g q l
-      (carried_prime h (outcome_of p g q) (sym (solved_as (not_square_where_prime ok e)) ∙ e))
-
--- ---- the point that solve gives, before its division
-
-record Undivided (h : Conic) (p : Point) : Type 0 where
-  from : Point
-  divided : p ≡ normal from
-  on : G h from ≡ pos 0
-  finite : from.z ≢ pos 0
-  small : {n : Limits} → Enough n → ConicWithin n.coefficients h → PointWithin n.point from
-
-undivided : (h : Conic) (p : Point) → NonDegenerate h → solve_of h ≡ point p → Undivided h p
-unfolding from_infinity carried_back
-undivided h p ok e = ⊎_elim infinite levelled (square_or_not h)
-  where
-    infinite : SquareDiscriminant h → Undivided h p
-    infinite square =
-        let s = start_at_infinity h in
-        let far = start h square in
-        let line = trial h s ok.not_zero far.not_zero in
-        record {
-          from = drawn h s (trial_line h s);
-          divided = cc (from_square h ok square);
-          on = drawn_on h s (trial_line h s) far.on;
-          finite = drawn_z h far line;
-          small = λ enough l. drawn_within enough l (start_within enough l) (trial_within h s);
-        }
-
-    levelled : ¬ SquareDiscriminant h → Undivided h p
-    levelled plain =
-        let v = levelled_by_own (levellable ok.not_zero plain) in
-        let (m, chosen, back) = chosen_and_carried v ok plain e in
-        let box = chosen.in_box in
-        record {
-          from = from_primed h (primed (level v) m);
-          divided = back;
-          on = up v m box.solution.equation;
-          finite = z_not_zero v m (w_not_zero v plain box.solution);
-          small = λ enough l. from_primed_within enough l _ (primed_within enough l v m box);
-        }
+-- ---- the point that solve gives
 
 positive_first : (m n : ℤ) → m ≢ pos 0 → pos 0 <ℤ or_else m n → pos 0 <ℤ m
 unfolding or_else
@@ -151,50 +115,102 @@ positive_first (pos zero) n m≢0 l = absurd (m≢0 refl)
 positive_first (pos (suc m)) n m≢0 l = l
 positive_first (negsuc m) n m≢0 l = l
 
-normal_finite : (p : Point) → p.z ≢ pos 0 → (normal p).z ≢ pos 0
-normal_finite p z≢0 e =
-    z≢0 (ap (λ v. v.z) (sym (factor_times_normal p)) ∙ rw e (*ℤ-zero (signed_factor p)))
-
-pub solved_within : {h : Conic} {p : Point} {n : Limits} → Enough n → ConicWithin n.coefficients h →
-    NonDegenerate h → solve_of h ≡ point p → PointWithin n.point p
-solved_within {h} {p} enough l ok e =
-    let u = undivided h p ok e in
-    rw u.divided (normal_within u.from (u.small enough l))
-
-pub point_is_right : PointIsRight
-unfolding PointIsRight leading
-point_is_right h p ok e =
-    let small = solved_within paper_enough (in_limit h ok.in_range_lem) ok e in
+right_point : (h : Conic) (p : Point) → G h p ≡ pos 0 → p.z ≢ pos 0 → PointWithin point_limit p → RightPoint h (normal p)
+unfolding leading
+right_point h p on z≢0 small =
     record {
-      on = rw u.divided ((normal_on_iff h u≢0).0 u.on);
-      normal_form = own;
-      in_plane = positive_first p.z _ (rw u.divided (normal_finite u.from u.finite)) own.positive;
-      x_within = small.x_within;
-      y_within = small.y_within;
-      z_within = small.z_within;
+      on = (normal_on_iff h p≢0).0 on;
+      normal_form = normal_is_normal_form p≢0;
+      in_plane = positive_first (normal p).z (or_else (normal p).x (normal p).y) normal_z≢0 (normal_is_normal_form p≢0).positive;
+      x_within = (normal_within_lem p small).x_within;
+      y_within = (normal_within_lem p small).y_within;
+      z_within = (normal_within_lem p small).z_within;
     }
   where
-    u : Undivided h p
-    u = undivided h p ok e
+    p≢0 : ¬ Zero p
+    p≢0 zeros = z≢0 zeros.2
 
-    u≢0 : ¬ Zero u.from
-    u≢0 zeros = u.finite zeros.2
+    normal_z≢0 : (normal p).z ≢ pos 0
+    normal_z≢0 e =
+        z≢0 (sym (ap (λ v. v.z) (factor_times_normal p)) ∙ ap (λ n. signed_factor p *ℤ n) e ∙ *ℤ-zero (signed_factor p))
 
-    own : NormalForm p
-    own = rw u.divided (normal_is_normal_form u≢0)
+from_infinity_right : (h : Conic) → NonDegenerate h → SquareDiscriminant h → RightPoint h (from_infinity h)
+unfolding from_infinity
+from_infinity_right h ok square =
+    right_point h (drawn h s t) (drawn_on h s t far.on) (drawn_z h far line) (drawn_within h small (start_within h small) line)
+  where
+    s : Point
+    s = start_at_infinity h
 
--- ---- the other statements
+    t : Point
+    t = trial_line h s
+
+    far : AtInfinity h s
+    far = start h square
+
+    line : Trial h s t
+    line = trial h s ok.not_zero far.not_zero
+
+    small : InLimit h
+    small = in_limit h ok.in_range_lem
+
+-- ---- however D and aΔ are split
+
+module _ {h : Conic} {d₁ e₁ : ℤ} {s t : ℕ} {p g q : ℤ} (v : LevelledBy h d₁ e₁ s t p g q) (ok : NonDegenerate h) (plain : ¬ SquareDiscriminant h) where
+  solved_as : solve_of h ≡ outcome_carried h (outcome_of p g q)
+  unfolding solve_levelled
+  solved_as = by (way h ok)
+    where
+      by : Way h → solve_of h ≡ outcome_carried h (outcome_of p g q)
+      by (from_square square e) = absurd (plain square)
+      by (by_level no_square e) = e ∙ ap (λ w. outcome_carried h (outcome_of w.p w.g w.q)) (level_unique v)
+
+  chosen_and_carried : {at : Point} → solve_of h ≡ point at → (m : Triple) × Chosen p g q m × (at ≡ carried_back h (level v) m)
+  unfolding Answer.SolutionIsChosen
+  chosen_and_carried e =
+      let (m, o, back) = carried_point h (outcome_of p g q) (sym solved_as ∙ e) in
+      (m, Legendre.solution_is_chosen p g q m (levelled v) o, back ∙ ap (λ w. carried_back h w m) (level_unique v))
+
+  least_failing_lem : {l : ℕ} → solve_of h ≡ none_by_prime l → LeastFailing p g q l
+  unfolding Answer.PrimeIsLeastFailing
+  least_failing_lem {l} e = Legendre.prime_is_least_failing p g q l (carried_prime h (outcome_of p g q) (sym solved_as ∙ e))
+
+  carried_right : (m : Triple) → BoxSolution p g q m.x m.y m.w → RightPoint h (carried_back h (level v) m)
+  unfolding carried_back
+  carried_right m box =
+      right_point h (from_primed h (primed (level v) m)) (up v m box.solution.equation)
+      (z_not_zero v m (levellable ok.not_zero plain) (w_not_zero v plain box.solution))
+      (from_primed_within h (primed (level v) m) small (primed_within v small box))
+    where
+      small : InLimit h
+      small = in_limit h ok.in_range_lem
+
+-- ---- the statements
 
 pub square_has_point : SquareHasPoint
 unfolding SquareHasPoint
-square_has_point h ok square = (from_infinity h, from_square h ok square)
+square_has_point h ok square = by (way h ok)
+  where
+    by : Way h → (p : Point) × (solve_of h ≡ point p)
+    by (from_square r e) = (from_infinity h, e)
+    by (by_level plain e) = absurd (plain square)
 
 pub square_is_chosen : SquareIsChosen
 unfolding SquareIsChosen from_infinity
-square_is_chosen h r ok e =
-    let s = start_at_infinity h in
-    let line = trial h s ok.not_zero (start h (pos r, e)).not_zero in
-    (s, trial_line h s, starts h r e, line.leads, from_square h ok (pos r, e))
+square_is_chosen h r ok e = (
+  start_at_infinity h,
+  trial_line h (start_at_infinity h),
+  starts h r e,
+  (trial h (start_at_infinity h) ok.not_zero (start h square).not_zero).leads,
+  by (way h ok),
+)
+  where
+    square : SquareDiscriminant h
+    square = (pos r, e)
+
+    by : Way h → solve_of h ≡ point (from_infinity h)
+    by (from_square _ given) = given
+    by (by_level plain _) = absurd (plain square)
 
 pub level_exists : LevelExists
 unfolding LevelExists
@@ -204,83 +220,60 @@ pub point_is_chosen : PointIsChosen
 unfolding PointIsChosen
 point_is_chosen h at ok plain e d₁ e₁ s t p g q v = chosen_and_carried v ok plain e
 
-pub point_exactly : PointExactly
-unfolding PointExactly PointIsRight SquareHasPoint outcome_carried Answer.SolutionExactly
-point_exactly h ok = (
-  λ (p, e). let right = point_is_right h p ok e in record { at = p; in_plane = right.in_plane; on = right.on },
-  λ has. ⊎_elim (square_has_point h ok) (solved has) (square_or_not h),
-)
+pub point_is_right : PointIsRight
+unfolding PointIsRight
+point_is_right h p ok given = by (way h ok)
   where
-    solved : HasPoint h → ¬ SquareDiscriminant h → (p : Point) × (solve_of h ≡ point p)
-    solved has plain =
-        let v = levelled_by_own (levellable ok.not_zero plain) in
-        let solvable = down v has.at has.on (positive_not_zero has.in_plane) in
-        let (m, o) = (Legendre.solution_exactly (level_of h).p (level_of h).g (level_of h).q (levelled v)).1 solvable in
-        (carried_back h (level_of h) m, rw (solved_as v ok plain, o))
+    by : Way h → RightPoint h p
+    by (from_square square e) = subst (RightPoint h) (ap (point_or p) (sym e ∙ given)) (from_infinity_right h ok square)
+    by (by_level plain e) =
+        let own = levelled_by_own (levellable ok.not_zero plain) in
+        let (m, chosen, back) = chosen_and_carried own ok plain given in
+        subst (RightPoint h) (sym back) (carried_right own ok plain m chosen.in_box)
+
+pub point_exactly : PointExactly
+unfolding PointExactly PointIsRight outcome_carried Answer.SolutionExactly
+point_exactly h ok = (λ (p, e). has_point p (point_is_right h p ok e), λ has. by has (way h ok))
+  where
+    has_point : (p : Point) → RightPoint h p → HasPoint h
+    has_point p right = record { at = p; in_plane = right.in_plane; on = right.on }
+
+    by : HasPoint h → Way h → (p : Point) × (solve_of h ≡ point p)
+    by has (from_square square e) = (from_infinity h, e)
+    by has (by_level plain e) =
+        let own = levelled_by_own (levellable ok.not_zero plain) in
+        let solvable = down own has.at has.on (λ z-is. ≢-of-<ℤ has.in_plane (sym z-is)) in
+        let (m, o) = (Legendre.solution_exactly (level_of h).p (level_of h).g (level_of h).q (levelled own)).1 solvable in
+        (carried_back h (level_of h) m, solved_as own ok plain ∙ ap (outcome_carried h) o)
 
 pub sign_exactly : SignExactly
 unfolding SignExactly outcome_carried Answer.SignExactly
-sign_exactly h ok = (
-  λ e. ⊎_elim (λ square. absurd (suc-ne-zero 0 (cc (from_square h ok square)))) (everywhere e) (square_or_not h),
-  given,
-)
+sign_exactly h ok = (λ e. by e (way h ok), given)
   where
-    everywhere : solve_of h ≡ none_by_sign_lem → ¬ SquareDiscriminant h → OneSignEverywhere h
-    everywhere e plain =
-        let v = levelled_by_own (levellable ok.not_zero plain) in
-        (sign_iff v).0 ((Legendre.sign_exactly _ _ _).0 (carried_sign h _ (sym (solved_as v ok plain) ∙ e)))
+    by : solve_of h ≡ none_by_sign_lem → Way h → OneSignEverywhere h
+    by e (from_square square f) = absurd (true≢false (ap is_sign (sym e ∙ f)))
+    by e (by_level plain f) =
+        let able = levellable ok.not_zero plain in
+        let own = levelled_by_own able in
+        (sign_iff own able).0
+        ((Legendre.sign_exactly (level_of h).p (level_of h).g (level_of h).q).0
+        (carried_sign h (outcome_of (level_of h).p (level_of h).g (level_of h).q) (sym (solved_as own ok plain) ∙ e)))
 
     given : OneSignEverywhere h → solve_of h ≡ none_by_sign_lem
     given one =
         let plain = not_square h one in
-        let v = levelled_by_own (levellable ok.not_zero plain) in
-        rw (solved_as v ok plain, (Legendre.sign_exactly _ _ _).1 ((sign_iff v).1 one))
+        let able = levellable ok.not_zero plain in
+        let own = levelled_by_own able in
+        solved_as own ok plain
+        ∙ ap (outcome_carried h) ((Legendre.sign_exactly (level_of h).p (level_of h).g (level_of h).q).1 ((sign_iff own able).1 one))
 
--- ---- sign and prime by the levelled equation, however D and aΔ are split
+pub prime_is_true : PrimeIsTrue
+unfolding PrimeIsTrue SignExactly
+prime_is_true h l ok given = (not_sign, λ d₁ e₁ s t p g q v. least_failing_lem v ok (plain (way h ok)) given)
+  where
+    not_sign : ¬ OneSignEverywhere h
+    not_sign one = true≢false (ap is_sign (sym ((sign_exactly h ok).1 one) ∙ given))
 
--- of two least failing primes, either is at most the other
-at_most : {p g q : ℤ} {l m : ℕ} → LeastFailing p g q l → LeastFailing p g q m → l ≤ m
-at_most {l = l} {m = m} a b =
-    let no : ¬ (m < l) = λ below. b.fails (a.none_smaller m below b.prime) in omega arith
-
-module _ {h : Conic} {d₁ e₁ : ℤ} {s t : ℕ} {p g q : ℤ} (v : LevelledBy h d₁ e₁ s t p g q) where
-  both_positive : OneSign p g q → Positive p × Positive q
-  both_positive (inl (p>0, g>0, q>0)) = (p>0, q>0)
-  both_positive (inr (p<0, g<0, q<0)) = clash_ℤ g<0 (≤ℤ_of-<ℤ (g_positive v))
-
-  sign_by_level_lem : NonDegenerate h → solve_of h ≡ none_by_sign_lem ↔ (Positive p × Positive q)
-  unfolding SignExactly
-  sign_by_level_lem ok = (
-    λ e. both_positive ((sign_iff v).1 ((sign_exactly h ok).0 e)),
-    λ (p>0, q>0). (sign_exactly h ok).1 ((sign_iff v).0 (inl (p>0, g_positive v, q>0))),
-  )
-
-  -- a verdict, where p and q are not both positive and l is the least failing prime
-  module _ {l : ℕ} (ok : NonDegenerate h) (mixed : ¬ (Positive p × Positive q)) (failing : LeastFailing p g q l) where
-    by_prime : (w : Verdict) → solve_of h ≡ w → w ≡ none_by_prime l
-    unfolding Legendre PointIsRight NeverRefused
-    by_prime (point at) e =
-        let right = point_is_right h at ok e in
-        let solvable = down v at right.on (positive_not_zero right.in_plane) in
-        let not_one_sign : ¬ OneSign p g q = λ one. mixed (both_positive one) in
-        absurd (failing.fails ((legendre p g q (levelled v) not_one_sign).0 solvable l failing.prime))
-    by_prime none_by_sign_lem e = absurd (mixed ((sign_by_level_lem ok).0 e))
-    by_prime (none_by_prime m) e =
-        let own = prime_least_failing v ok e in
-        ap none_by_prime (le_antisymm (at_most own failing) (at_most failing own))
-    by_prime (refusal n) e = absurd (never_refused h n ok e)
-
-pub split_is_levelled : SplitIsLevelled
-unfolding SplitIsLevelled
-split_is_levelled h d₁ e₁ s t p g q v = (levelled v, g_positive v)
-
-pub sign_by_level : SignByLevel
-unfolding SignByLevel
-sign_by_level h d₁ e₁ s t p g q ok v = sign_by_level_lem v ok
-
-pub prime_by_level : PrimeByLevel
-unfolding PrimeByLevel
-prime_by_level h l d₁ e₁ s t p g q ok v = (
-  λ e. (λ both. suc-ne-zero 0 (cc ((sign_by_level_lem v ok).1 both)), prime_least_failing v ok e),
-  λ (mixed, failing). by_prime v ok mixed failing (solve_of h) refl,
-)
+    plain : Way h → ¬ SquareDiscriminant h
+    plain (from_square square e) = absurd (true≢false (ap is_point (sym e ∙ given)))
+    plain (by_level no_square e) = no_square

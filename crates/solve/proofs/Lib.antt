@@ -5,6 +5,7 @@ pub mod Sign
 pub mod Demand2
 pub mod Answers
 pub mod Bench
+pub mod Carrying
+pub mod Entries
 pub mod Reach
-pub mod Refusals
 pub mod Promise

@@ -1,8 +1,7 @@
 -- The promise of solve determines its answer, which can be told from what it stands for in the paper. Assumes nothing.
 use mathlib.Core.Path.{◌≡◌, refl, sym, ap, ◌∙◌}
-use Rattle.paper.specs.Answers.{point, none_by_sign_lem, none_by_prime, refusal}
-use Rattle.paper.proofs.Promise.{told_apart, numbered, numbered_number}
-use Rattle.point.specs.Verdict.{Verdict}
+use Rattle.point.specs.Paper.{Verdict, point, none_by_sign_lem, none_by_prime, refusal}
+use Rattle.point.proofs.Promise.{told_apart, numbered, numbered_number}
 use Rattle.conic.specs.declared.conic.Conic.{Conic}
 use Rattle.solve.specs.Answer.{solved}
 use Rattle.solve.specs.Solve.{SolvePromise}
@@ -28,5 +27,4 @@ solved_back (Solved.Refused r) = ap Solved.Refused (numbered_number r)
 -- ---- two answers that a promise allows are equal
 
 pub solve_determined : {h : Conic} {r r' : Solved} → SolvePromise h r → SolvePromise h r' → r ≡ r'
-solve_determined {r = r} {r' = r'} a b =
-    told_apart solved to_solved solved_back r r' (a.as_defined ∙ sym b.as_defined)
+solve_determined {r = r} {r' = r'} a b = told_apart solved to_solved solved_back r r' (a.as_defined ∙ sym b.as_defined)

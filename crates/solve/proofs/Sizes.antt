@@ -1,137 +1,82 @@
--- What a limit on the coefficients sets. X', Y' and W' are small, since their squares are at most |aΔ|, |D·aΔ| and |D|
--- where X, Y, W lie in the box; and so are the points of both ways, before they are divided. Assumes nothing.
-use mathlib.Core.Bool.{Bool, true, false, cond}
-use mathlib.Core.Path.{◌≡◌}
-use Prim.Native.Nat.{ℕ, suc, ◌+◌, ◌*◌, ◌≤◌, ◌<◌, zero-le}
-use native.Mathlib.Nat.{le_refl, le_trans, lt_of_le_of_lt, mul_comm, mul-le-mul, mul-le-mul_left, mul-mul-mul_comm}
-use native.Mathlib.Omega.{arith}
-use lib.Dec.{lit≤, lit<}
+-- X', Y' and W' are small, since their squares are at most |aΔ|, |D·aΔ| and |D| where X, Y, W lie in the box; and so is the point that
+-- is carried back, before it is divided. Assumes nothing.
+use mathlib.Core.Path.{◌≡◌, ap, ◌∙◌}
+use mathlib.Core.List.{[], ◌∷◌}
+use Prim.Native.Nat.{ℕ, suc, ◌*◌, ◌≤◌}
+use native.Mathlib.Nat.{le_trans, le_of_eq, lt_of_le_of_lt, mul_comm, mul-le-mul, mul-le-mul_left, mul-mul-mul_comm}
+use lib.Dec.{T, ltb, ltb→lt}
 use lib.IntN.{ℤ, pos, nat_abs, ◌*ℤ◌, *ℤ_comm}
-use Rattle.basic.proofs.Tests.{cond_cases}
-use Rattle.whole.specs.Tests.{is_zero}
-use Rattle.whole.proofs.Signed.{sizes}
+use Rattle.whole.proofs.Combination.{combine, ◌⊞◌, ◌⊠◌}
+use Rattle.whole.proofs.Ring.{by_ring, reify}
+use Rattle.whole.proofs.Signed.{sizes, bounds}
 use Rattle.whole.proofs.Size.{nat_abs-*}
-use Rattle.number.specs.Square.{root_of}
-use Rattle.number.proofs.Square.{root_is, at_most_by_squares}
+use Rattle.number.proofs.Square.{at_most_by_squares}
 use Rattle.legendre.specs.Equation.{BoxSolution}
-use Rattle.legendre.specs.declared.outcome.Triple.{Triple}
+use Rattle.point.specs.Paper.{point_limit}
 use Rattle.point.specs.Sizes.{PointWithin}
 use Rattle.point.specs.declared.Point.{Point}
-use Rattle.conic.specs.Form.{G, L, D, Δ, k, drawn}
-use Rattle.conic.specs.Sizes.{ConicWithin}
+use Rattle.conic.specs.Form.{D, Δ, k}
+use Rattle.conic.specs.Sizes.{InLimit}
 use Rattle.conic.specs.declared.conic.Conic.{Conic}
-use Rattle.conic.proofs.Bounds.{limit_G, limit_L, G-size, L-size}
-use Rattle.conic.proofs.Products.{at_most_bound}
 use Rattle.conic.proofs.Sizes.{limit_D, limit_k, limit_aΔ, D-size, k_size, aΔ_size}
 use Rattle.solve.specs.Demand2.{LevelledBy}
 use Rattle.solve.specs.Level.{primed, from_primed}
-use Rattle.solve.specs.Sizes.{Limits, paper_limits, PrimedWithin}
-use Rattle.solve.specs.Solve.{first_line, second_line, third_line, trial_line, start_at_infinity}
-use Rattle.solve.proofs.Levelling.{product_of_both, level, D-is, aΔ_is}
-
--- ---- limits
-
--- of S at infinity
-abbrev pub limit_start : Limits → ℕ
-limit_start n = n.W' + 2 * n.coefficients + 1
-
--- of G(T)S − L(S, T)T, with the conic within c, S within m and T within n
-abbrev limit_drawn : ℕ → ℕ → ℕ → ℕ
-limit_drawn c m n = limit_G c n * m + limit_L c m n * n
-
--- what a limit on the coefficients leads to is within the others
-pub record Enough (n : Limits) : Type 0 where
-  pub X' : limit_aΔ n.coefficients < suc n.X' * suc n.X'
-  pub Y' : limit_D n.coefficients * limit_aΔ n.coefficients < suc n.Y' * suc n.Y'
-  pub W' : limit_D n.coefficients < suc n.W' * suc n.W'
-  pub x :
-      2 * limit_D n.coefficients * n.X' + 2 * n.coefficients * n.Y'
-      + n.coefficients * limit_k n.coefficients * n.W' + n.coefficients * limit_D n.coefficients * n.W'
-      ≤ n.point
-  pub y : 4 * n.coefficients * n.Y' + 2 * n.coefficients * limit_k n.coefficients * n.W' ≤ n.point
-  pub z : 2 * n.coefficients * limit_D n.coefficients * n.W' ≤ n.point
-  pub drawn : limit_drawn n.coefficients (limit_start n) 1 ≤ n.point
-
-pub paper_enough : Enough paper_limits
-paper_enough =
-    record { X' = lit< tt; Y' = lit< tt; W' = lit< tt; x = lit≤ tt; y = lit≤ tt; z = lit≤ tt; drawn = lit≤ tt }
+use Rattle.solve.specs.Sizes.{limit_X', limit_Y', limit_W', PrimedWithin}
+use Rattle.solve.proofs.Levelling.{level, D-is, aΔ_is}
 
 -- ---- X', Y' and W'
 
+pub root_within : (m n i r : ℕ) → i * i ≤ m → m ≤ n → T (ltb n (suc r * suc r)) → i ≤ r
+root_within m n i r low small t = at_most_by_squares low (lt_of_le_of_lt small (ltb→lt n (suc r * suc r) t))
+
 -- n = m·u² and i² ≤ |m|: (ui)² ≤ |n|
-square_within : (u n m : ℤ) (i : ℕ) → n ≡ m *ℤ (u *ℤ u) → i * i ≤ nat_abs m →
-    nat_abs (u *ℤ pos i) * nat_abs (u *ℤ pos i) ≤ nat_abs n
+square_within : (u n m : ℤ) (i : ℕ) → n ≡ m *ℤ (u *ℤ u) → i * i ≤ nat_abs m → nat_abs (u *ℤ pos i) * nat_abs (u *ℤ pos i) ≤ nat_abs n
 square_within u n m i e h =
-    rw (e, nat_abs-* u (pos i), nat_abs-* m (u *ℤ u), nat_abs-* u u, mul-mul-mul_comm (nat_abs u) i, mul_comm (nat_abs m))
+    rw (e, nat_abs-* u (pos i), nat_abs-* m (u *ℤ u), nat_abs-* u u, mul-mul-mul_comm (nat_abs u) i (nat_abs u) i, mul_comm (nat_abs m))
     (mul-le-mul_left (nat_abs u * nat_abs u) h)
 
--- ---- within the limits
+-- D·aΔ = pq·(stg)²
+product_of_both : (p g q s t D E : ℤ) → D ≡ p *ℤ g *ℤ (s *ℤ s) → E ≡ q *ℤ g *ℤ (t *ℤ t) →
+    D *ℤ E ≡ p *ℤ q *ℤ (s *ℤ t *ℤ g *ℤ (s *ℤ t *ℤ g))
+product_of_both p g q s t D E D-is E-is =
+    combine (E ⊠ D-is ⊞ p *ℤ g *ℤ (s *ℤ s) ⊠ E-is)
+    (by_ring (p ∷ g ∷ q ∷ s ∷ t ∷ D ∷ E ∷ []) (search reify depth 64 fits 9999) tt)
 
-module _ {n : Limits} (enough : Enough n) {h : Conic} (l : ConicWithin n.coefficients h) where
-  pub root_within : root_of (nat_abs (D h)) ≤ n.W'
-  root_within =
-      at_most_by_squares (le_trans (root_is (nat_abs (D h))).square_at_most (D-size h l)) enough.W'
-
-  pub start_within : PointWithin (limit_start n) (start_at_infinity h)
-  unfolding start_at_infinity
-  start_within =
-      let root : root_of (nat_abs (D h)) ≤ n.W' = root_within in
-      cond_cases (PointWithin (limit_start n)) (is_zero h.a)
-      (λ zero. record { x_within = omega arith; y_within = zero-le; z_within = zero-le })
-      (λ other. record {
-        x_within = at_most_bound (search sizes depth 40 fits 9999) tt (omega arith);
-        y_within = at_most_bound (search sizes depth 40 fits 9999) tt (omega arith);
-        z_within = zero-le;
-      })
-
-  pub drawn_within :
-      {s t : Point} → PointWithin (limit_start n) s → PointWithin 1 t → PointWithin n.point (drawn h s t)
-  unfolding drawn
-  drawn_within {s} {t} from along =
-      let of_G : nat_abs (G h t) ≤ limit_G n.coefficients 1 = G-size l along in
-      let of_L : nat_abs (L h s t) ≤ limit_L n.coefficients (limit_start n) 1 = L-size l from along in
-      record {
-        x_within = at_most_bound (search sizes depth 60 fits 9999) tt enough.drawn;
-        y_within = at_most_bound (search sizes depth 60 fits 9999) tt enough.drawn;
-        z_within = at_most_bound (search sizes depth 60 fits 9999) tt enough.drawn;
-      }
-
-  pub from_primed_within : (m : Point) → PrimedWithin n m → PointWithin n.point (from_primed h m)
-  unfolding from_primed
-  from_primed_within m small =
-      let of_D : nat_abs (D h) ≤ limit_D n.coefficients = D-size h l in
-      let of_k : nat_abs (k h) ≤ limit_k n.coefficients = k_size h l in
-      record {
-        x_within = at_most_bound (search sizes depth 40 fits 9999) tt enough.x;
-        y_within = at_most_bound (search sizes depth 40 fits 9999) tt enough.y;
-        z_within = at_most_bound (search sizes depth 40 fits 9999) tt enough.z;
-      }
-
-  pub primed_within : {d₁ e₁ : ℤ} {s t : ℕ} {p g q : ℤ} (v : LevelledBy h d₁ e₁ s t p g q) (m : Triple) →
-      BoxSolution p g q m.x m.y m.w → PrimedWithin n (primed (level v) m)
+module _ {h : Conic} {d₁ e₁ : ℤ} {s t : ℕ} {p g q : ℤ} (v : LevelledBy h d₁ e₁ s t p g q) where
+  pub primed_within : {x y w : ℕ} → InLimit h → BoxSolution p g q x y w → PrimedWithin (primed (level v) (record { x = x; y = y; w = w }))
   unfolding primed
-  primed_within {s = s} {t = t} {p = p} {g = g} {q = q} v m box =
-      let E = h.a *ℤ Δ h in
-      let both = product_of_both p g q (pos s) (pos t) (D h) E (D-is v) (aΔ_is v) in
+  primed_within {x} {y} {w} l box =
       record {
         x_within =
-            at_most_by_squares
-            (square_within (pos t) E (g *ℤ q) m.x (cc (aΔ_is v, *ℤ_comm q g)) box.x_within)
-            (lt_of_le_of_lt (aΔ_size h l) enough.X');
+            root_within (nat_abs aΔ) limit_aΔ (t * x) limit_X'
+            (square_within (pos t) aΔ (g *ℤ q) x (aΔ_is v ∙ ap (λ (n : ℤ). n *ℤ pos (t * t)) (*ℤ_comm q g)) box.x_within) of_aΔ tt;
         y_within =
-            at_most_by_squares
-            (square_within (pos s *ℤ pos t *ℤ g) (D h *ℤ E) (p *ℤ q) m.y both box.y_within)
-            (lt_of_le_of_lt (rw (nat_abs-* (D h) E) (mul-le-mul (D-size h l) (aΔ_size h l))) enough.Y');
+            root_within (nat_abs (D h *ℤ aΔ)) (limit_D * limit_aΔ) (nat_abs (pos s *ℤ pos t *ℤ g *ℤ pos y)) limit_Y'
+            (square_within (pos s *ℤ pos t *ℤ g) (D h *ℤ aΔ) (p *ℤ q) y (product_of_both p g q (pos s) (pos t) (D h) aΔ (D-is v) (aΔ_is v)) box.y_within)
+            (le_trans (le_of_eq (nat_abs-* (D h) aΔ)) (mul-le-mul of_D of_aΔ)) tt;
         z_within =
-            at_most_by_squares (square_within (pos s) (D h) (p *ℤ g) m.w (D-is v) box.w_within)
-            (lt_of_le_of_lt (D-size h l) enough.W');
+            root_within (nat_abs (D h)) limit_D (s * w) limit_W'
+            (square_within (pos s) (D h) (p *ℤ g) w (D-is v) box.w_within) of_D tt;
       }
+    where
+      aΔ : ℤ
+      aΔ = h.a *ℤ Δ h
 
-pub trial_within : (h : Conic) (s : Point) → PointWithin 1 (trial_line h s)
-unfolding trial_line
-trial_within h s = by (is_zero (L h s first_line)) (is_zero (L h s second_line))
-  where
-    by : (a b : Bool) → PointWithin 1 (cond a (cond b third_line second_line) first_line)
-    by true true = record { x_within = zero-le; y_within = le_refl 1; z_within = le_refl 1 }
-    by true false = record { x_within = le_refl 1; y_within = zero-le; z_within = le_refl 1 }
-    by false b = record { x_within = zero-le; y_within = zero-le; z_within = le_refl 1 }
+      of_D : nat_abs (D h) ≤ limit_D
+      of_D = D-size h l
+
+      of_aΔ : nat_abs aΔ ≤ limit_aΔ
+      of_aΔ = aΔ_size h l
+
+-- ---- the point, before the division
+
+pub from_primed_within : (h : Conic) (m : Point) → InLimit h → PrimedWithin m → PointWithin point_limit (from_primed h m)
+unfolding from_primed
+from_primed_within h m l small =
+    let of_D : nat_abs (D h) ≤ limit_D = D-size h l in
+    let of_k : nat_abs (k h) ≤ limit_k = k_size h l in
+    record {
+      x_within = bounds (search sizes depth 40 fits 9999) tt;
+      y_within = bounds (search sizes depth 40 fits 9999) tt;
+      z_within = bounds (search sizes depth 40 fits 9999) tt;
+    }

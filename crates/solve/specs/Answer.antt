@@ -1,7 +1,5 @@
 -- What each case of solve's answer stands for in the paper. Assumes nothing.
-use Rattle.paper.specs.Answers.{point, none_by_sign_lem, none_by_prime, refusal}
-use Rattle.paper.specs.Refusals.{number}
-use Rattle.point.specs.Verdict.{Verdict}
+use Rattle.point.specs.Paper.{number, Verdict, point, none_by_sign_lem, none_by_prime, refusal}
 use Rattle.solve.specs.declared.Answer.{Answer}
 use Rattle.solve.specs.declared.Answer.TheVariants as Answer
 use Rattle.solve.specs.declared.Reason.{Reason}

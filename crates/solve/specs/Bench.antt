@@ -1,8 +1,7 @@
--- The paper's starred bench examples: the list of conics, the list of their answers, and the one statement that solve
--- gives the second for the first. Assumes nothing.
+-- The paper's starred bench examples: the list of conics, the list of their answers, and the one statement that solve gives the second
+-- for the first. Assumes nothing.
 use Rattle.std.specs.Prelude.{◌≡◌, List, [], ◌∷◌, map, ℕ, ℤ, pos, neg_ℤ}
-use Rattle.paper.specs.Answers.{point, none_by_sign_lem, none_by_prime}
-use Rattle.point.specs.Verdict.{Verdict}
+use Rattle.point.specs.Paper.{Verdict, point, none_by_sign_lem, none_by_prime}
 use Rattle.conic.specs.declared.conic.Conic.{Conic}
 use Rattle.solve.specs.Solve.{solve_of}
 

@@ -1,20 +1,15 @@
--- Levelling: D = d₁s² and aΔ = e₁t² with d₁, e₁ squarefree (signs kept), g = gcd(d₁, e₁), p = d₁/g, q = e₁/g; and the
--- way back from a solution of the levelled equation to a point of the conic. Assumes nothing.
-use Rattle.std.specs.Prelude.{◌≡◌, ℕ, ℤ, pos, nat_abs, ◌+ℤ◌, ◌-ℤ◌, ◌*ℤ◌}
+-- Levelling: D = d₁s² and aΔ = e₁t² with d₁, e₁ squarefree (signs kept), g = gcd(d₁, e₁), p = d₁/g, q = e₁/g; and the way back from
+-- a solution of the levelled equation to a point of the conic. Assumes nothing.
+use Rattle.std.specs.Prelude.{ℕ, ℤ, pos, nat_abs, ◌+ℤ◌, ◌-ℤ◌, ◌*ℤ◌}
 use Rattle.std.specs.Int.Signed.{quot_z}
 use Rattle.number.specs.Gcd.{gcd_of}
 use Rattle.number.specs.Squarefree.{free_part, square_part}
 use Rattle.legendre.specs.declared.outcome.Triple.{Triple}
 use Rattle.point.specs.Normal.{normal}
 use Rattle.point.specs.declared.Point.{Point}
-use Rattle.conic.specs.Form.{G, Gx, D, Δ, k}
+use Rattle.conic.specs.Form.{D, Δ, k}
 use Rattle.conic.specs.declared.conic.Conic.{Conic}
 use Rattle.solve.specs.declared.level.Level.{Level}
-use Rattle.solve.specs.declared.level.Split.{Split}
-
--- the d and s of n = d·s²
-abbrev pub signed_split : ℤ → Split
-signed_split n = record { free = free_part n; square = square_part n }
 
 -- from d₁, s, e₁ and t
 unfoldable pub level_from : ℤ → ℕ → ℤ → ℕ → Level
@@ -29,14 +24,6 @@ level_of h =
     (square_part (D h))
     (free_part (h.a *ℤ Δ h))
     (square_part (h.a *ℤ Δ h))
-
--- 4aD·G = D-as-G_x² + (Dy + kz)² + 4aΔ·z²: a point of the conic gives a solution of the levelled equation
-unfoldable pub LevelledForm : Type 0
-LevelledForm =
-    (h : Conic) (p : Point) →
-    let B : ℤ = D h *ℤ p.y +ℤ k h *ℤ p.z in
-    pos 4 *ℤ h.a *ℤ D h *ℤ G h p
-    ≡ D h *ℤ (Gx h p *ℤ Gx h p) +ℤ B *ℤ B +ℤ pos 4 *ℤ (h.a *ℤ Δ h) *ℤ (p.z *ℤ p.z)
 
 -- X' = tX, Y' = stgY, W' = sW
 unfoldable pub primed : Level → Triple → Point

@@ -1,7 +1,5 @@
--- The sizes within which levelling and the way back are exact: of the parts of D and aΔ, and of X', Y' and W'.
--- Assumes nothing.
-use Rattle.std.specs.Prelude.{◌≢◌, ℕ, suc, ◌*◌, ◌≤◌, ℤ, pos, nat_abs}
-use Rattle.paper.specs.Limits.{coefficient_limit, base_limit}
+-- The sizes within which levelling and the way back are exact: of the parts of D and aΔ, and of X', Y' and W'. Assumes nothing.
+use Rattle.std.specs.Prelude.{◌≢◌, ℕ, ◌≤◌, ℤ, pos, nat_abs, ◌<ℤ◌}
 use Rattle.legendre.specs.declared.outcome.Triple.{Triple}
 use Rattle.point.specs.Normal.{largest}
 use Rattle.point.specs.declared.Point.{Point}
@@ -11,26 +9,27 @@ use Rattle.conic.specs.declared.conic.Conic.{Conic}
 use Rattle.solve.specs.Level.{primed}
 use Rattle.solve.specs.declared.level.Level.{Level}
 
--- a limit on the coefficients, with those that it sets: of X', Y', W', the roots of |aΔ|, |D·aΔ|, |D|, and of the point
-pub record Limits : Type 0 where
-  pub coefficients : ℕ
-  pub X' : ℕ
-  pub Y' : ℕ
-  pub W' : ℕ
-  pub point : ℕ
+-- Sizes of X', Y', W', the roots of |aΔ|, |D·aΔ| and |D| at the largest coefficients: these three are to be written anew for another
+-- limit
 
-abbrev pub paper_limits : Limits
-paper_limits = record { coefficients = coefficient_limit; X' = 4_525; Y' = 404_771; W' = 89; point = base_limit }
+abbrev pub limit_X' : ℕ
+limit_X' = 4_525
 
-pub record PrimedWithin (n : Limits) (m : Point) : Type 0 where
-  pub x_within : nat_abs m.x ≤ n.X'
-  pub y_within : nat_abs m.y ≤ n.Y'
-  pub z_within : nat_abs m.z ≤ n.W'
+abbrev pub limit_Y' : ℕ
+limit_Y' = 404_771
+
+abbrev pub limit_W' : ℕ
+limit_W' = 89
+
+pub record PrimedWithin (m : Point) : Type 0 where
+  pub x_within : nat_abs m.x ≤ limit_X'
+  pub y_within : nat_abs m.y ≤ limit_Y'
+  pub z_within : nat_abs m.z ≤ limit_W'
 
 -- a conic and (X', Y', W')
 pub record PrimedAt (h : Conic) (m : Point) : Type 0 where
   pub conic : InLimit h
-  pub primed_within : PrimedWithin paper_limits m
+  pub primed_within : PrimedWithin m
 
 -- a conic in limit whose D is not 0
 pub record CanLevel (h : Conic) : Type 0 where
@@ -45,16 +44,13 @@ pub record PartsWithin (d : ℤ) (s : ℕ) (e : ℤ) (t : ℕ) : Type 0 where
   pub e_within : nat_abs e ≤ largest
   pub t_within : t ≤ largest
 
--- a level and a solution, each of their numbers being small: g is at most |D|
-pub record Carries (n : Limits) (v : Level) (m : Triple) : Type 0 where
-  pub s_within : nat_abs v.s ≤ n.W'
-  pub t_within : nat_abs v.t ≤ n.X'
-  pub g_within : nat_abs v.g ≤ suc n.W' * suc n.W'
-  pub x_within : m.x ≤ n.X'
-  pub y_within : m.y ≤ n.Y'
-  pub w_within : m.w ≤ n.W'
+-- a level and a solution, where tX, stgY and sW are small
+pub record Carries (v : Level) (m : Triple) : Type 0 where
+  pub s_positive : pos 0 <ℤ v.s
+  pub t_positive : pos 0 <ℤ v.t
+  pub g_positive : pos 0 <ℤ v.g
+  pub primed_within : PrimedWithin (primed v m)
 
 pub record CarriedFrom (h : Conic) (v : Level) (m : Triple) : Type 0 where
   pub conic : InLimit h
-  pub carries : Carries paper_limits v m
-  pub primed_within : PrimedWithin paper_limits (primed v m)
+  pub carries : Carries v m

@@ -1,15 +1,13 @@
--- Solving a conic, as the paper has it: refusals 1 and 2; where −D is a square, the point from infinity by the trial
--- lines; otherwise the levelled equation's sign, least failing prime, or chosen solution carried back. Assumes nothing.
+-- Solving a conic, as the paper has it: refusals 1 and 2; where −D is a square, the point from infinity by the trial lines;
+-- otherwise the levelled equation's sign, least failing prime, or chosen solution carried back. Assumes nothing.
 use Rattle.std.specs.Prelude.{Bool, ◌&&◌, cond, ◌≡◌, ℤ, pos, neg_ℤ, nat_abs, ◌-ℤ◌, ◌*ℤ◌}
 use Rattle.std.specs.Int.Signed.{non_neg}
-use Rattle.whole.specs.Tests.{is_zero}
-use Rattle.paper.specs.Answers.{point, none_by_sign_lem, none_by_prime, refusal}
 use Rattle.number.specs.Square.{root_of, is_square}
 use Rattle.legendre.specs.Outcome.{outcome_of}
 use Rattle.legendre.specs.declared.outcome.Outcome.{Outcome}
 use Rattle.legendre.specs.declared.outcome.Outcome.TheVariants as Outcome
 use Rattle.point.specs.Normal.{normal}
-use Rattle.point.specs.Verdict.{Verdict}
+use Rattle.point.specs.Paper.{Verdict, point, none_by_sign_lem, none_by_prime, refusal, is_zero}
 use Rattle.point.specs.declared.Point.{Point}
 use Rattle.conic.specs.Form.{L, D, Δ, drawn}
 use Rattle.conic.specs.Base.{in_range}

@@ -1,44 +1,14 @@
-// The levelled equation pX² + gY² + qW² = 0 of a conic, with D = pg·s² and aΔ = gq·t², and the way back from its
-// solutions.
-ghost use Rattle.std.specs.Prelude.{◌≡◌, ◌≤◌, nat_abs};
-ghost use Rattle.point.specs.Normal.{largest};
-ghost use Rattle.solve.specs.Level.{signed_split, level_from, level_of, primed, from_primed, carried_back};
-ghost use Rattle.solve.specs.Sizes.{paper_limits, CanLevel, PartsWithin, Carries, CarriedFrom, PrimedAt};
+// The levelled equation pX² + gY² + qW² = 0 of a conic, with D = pg·s² and aΔ = gq·t², and the way back from its solutions.
+ghost use Rattle.std.specs.Prelude.{◌≡◌};
+ghost use Rattle.solve.specs.Level.{level_from, level_of, primed, from_primed, carried_back};
+ghost use Rattle.solve.specs.Sizes.{CanLevel, PartsWithin, Carries, CarriedFrom, PrimedAt};
 
 use conic::conic::Conic;
 use legendre::outcome::Triple;
 use number::euclid::gcd;
-use number::splitting;
+use number::splitting::split;
 use point::Point;
 
-// A number as free · square², with free squarefree and the number's sign kept; both are 0 for 0.
-#[derive(Drop)]
-struct Split {
-    free: i64,
-    square: u64,
-}
-
-impl Split {
-    // The parts of a number of either sign: a split of its size, and a negation where n is negative.
-    fn of(n: i64) -> Split
-        requires { nat_abs n ≤ largest }
-        ensures { result ≡ signed_split n }
-    {
-        let parts = splitting::split(whole::magnitude(n));
-        let free = parts.free as i64;
-        let square = parts.square;
-        if n < 0 {
-            Split {
-                free: -free,
-                square,
-            }
-        } else {
-            Split { free, square }
-        }
-    }
-}
-
-// The numbers of the levelled equation, with s and t for the way back.
 #[derive(Drop)]
 pub struct Level {
     pub p: i64,
@@ -49,17 +19,17 @@ pub struct Level {
 }
 
 impl Level {
-    // The level of a conic, from its D and aΔ: two splits and a greatest common divisor.
+    // Two splits and a greatest common divisor.
     pub fn of(h: Conic) -> Level
         requires { CanLevel h }
         ensures { result ≡ level_of h }
     {
-        let d = Split::of(h.discriminant());
-        let e = Split::of(h.a * h.determinant());
+        let d = split(h.discriminant());
+        let e = split(h.a * h.determinant());
         Level::from_parts(d.free, d.square, e.free, e.square)
     }
 
-    // The level by D = ds² and aΔ = et²: a greatest common divisor and two divisions.
+    // From D = ds² and aΔ = et²: a greatest common divisor and two divisions.
     fn from_parts(d: i64, s: u64, e: i64, t: u64) -> Level
         requires { PartsWithin d s e t }
         ensures { result ≡ level_from d s e t }
@@ -74,9 +44,9 @@ impl Level {
         }
     }
 
-    // A solution as (X', Y', W') = (tX, stgY, sW): five products.
+    // (X', Y', W') = (tX, stgY, sW): five products.
     fn primed(self, m: Triple) -> Point
-        requires { Carries paper_limits self m }
+        requires { Carries self m }
         ensures { result ≡ primed self m }
     {
         let Level { g, s, t, .. } = self;
@@ -98,7 +68,7 @@ impl Level {
     }
 }
 
-// The point of (X', Y', W') before its division, x = 2DX' - 2bY' + bkW' - dDW', y = 4aY' - 2akW', z = 2aDW': 28 steps.
+// x = 2DX' - 2bY' + bkW' - dDW', y = 4aY' - 2akW', z = 2aDW': 28 steps.
 fn from_primed(h: Conic, m: Point) -> Point
     requires { PrimedAt h m }
     ensures { result ≡ from_primed h m }

@@ -5,11 +5,11 @@ ghost use Rattle.solve.specs.Answer.{answered};
 ghost use Rattle.solve.specs.Solve.{solve_levelled, solve_non_degenerate, SolvePromise};
 
 use crate::level::Level;
-use conic::conic::{Conic, Judged};
+use conic::conic::Conic;
 use legendre::decide::outcome;
 use legendre::outcome::Outcome;
-use paper::Refusal;
-use point::Point;
+use point::paper::Refusal;
+use point::{Point, size};
 
 mod level;
 mod trial;
@@ -28,14 +28,13 @@ pub enum Answer {
     None(Reason),
 }
 
-// An answer, or a refusal.
 #[derive(Drop)]
 pub enum Solved {
     Answer(Answer),
     Refused(Refusal),
 }
 
-// The answer where -D is no square: the levelling, the answer to the levelled equation, and for a point the way back.
+// The levelling, the answer to the levelled equation, and for a point the way back.
 fn solve_levelled(h: Conic) -> Answer
     requires { NonDegenerate h × (¬ SquareDiscriminant h) }
     ensures { answered result ≡ solve_levelled h }
@@ -49,7 +48,7 @@ fn solve_levelled(h: Conic) -> Answer
     }
 }
 
-// The answer of a conic that is not refused: one square test, and one of the two ways.
+// One square test, and one of the two ways.
 fn solve_non_degenerate(h: Conic) -> Answer
     requires { NonDegenerate h }
     ensures { answered result ≡ solve_non_degenerate h }
@@ -61,12 +60,15 @@ fn solve_non_degenerate(h: Conic) -> Answer
     }
 }
 
-// The answer or the refusal of any six numbers: at most what levelling and the answer to the levelled equation cost.
+// Any six numbers: at most what levelling and the answer to the levelled equation cost.
 pub fn solve(h: Conic) -> Solved
     ensures { SolvePromise h result }
 {
-    if let Judged::Refused(refusal) = h.judge() {
-        return Solved::Refused(refusal);
+    if !h.in_range() {
+        return Solved::Refused(Refusal::Range);
+    }
+    if size::is_zero(h.determinant()) {
+        return Solved::Refused(Refusal::Degenerate);
     }
     Solved::Answer(solve_non_degenerate(h))
 }

@@ -1,5 +1,5 @@
--- Products with a factor that is not 0: where such a product is 0 the other factor is, and two such factors give a
--- product that is not 0. Assumes nothing.
+-- Products with a factor that is not 0: where such a product is 0 the other factor is, and two such factors give a product that is
+-- not 0. Assumes nothing.
 use mathlib.Core.Path.{◌≡◌}
 use mathlib.Core.Logic.{◌≢◌, ⊎_elim}
 use lib.IntN.{ℤ, pos, ◌*ℤ◌}

@@ -11,5 +11,3 @@ pub mod Cancel
 pub mod Quotient
 pub mod Signed
 pub mod SignedTests
-pub mod Tests
-pub mod Passed

@@ -1,16 +1,15 @@
--- The size of a whole number, `nat_abs`: of a negation, a sum, a product, a quotient, a remainder; where it is 0; and
--- a square is that of the size. A product is, at each pair of signs, the product of the sizes with a sign; a sum of
--- two signs is a difference of sizes. Assumes nothing.
+-- The size of a whole number, `nat_abs`: of a negation, a sum, a product, a quotient, a remainder; where it is 0; and a square is
+-- that of the size. A product is, at each pair of signs, the product of the sizes with a sign; a sum of two signs is a difference
+-- of sizes. Assumes nothing.
 use mathlib.Core.Path.{◌≡◌, refl, ap}
 use mathlib.Core.Logic.{◌≢◌}
+use mathlib.Core.Bool.{Bool, true, false, cond}
 use Prim.Native.Nat.{ℕ, zero, suc, ◌+◌, ◌*◌, ◌-◌, ◌/◌, ◌%◌, ◌≤◌, ◌<◌}
 use native.Mathlib.Nat as Nat
 use native.Mathlib.Omega.{arith}
-use lib.Dec.{ltb}
+use lib.Dec.{T, ltb, ltb→lt}
 use lib.IntN.{ℤ, pos, negsuc, neg_ℤ, nat_abs, sub_ℕ, ◌+ℤ◌, ◌*ℤ◌}
 use lib.Signed.{mag, quot_z, rem_z}
-use borrow.Author.Tests.{ltb-true}
-use Rattle.basic.proofs.Tests.{by_test}
 
 -- ---- a number and its size
 
@@ -35,7 +34,11 @@ mag-≤-nat_abs (negsuc n) = Nat.le-suc n
 
 -- a difference of naturals is no longer than their sum
 nat_abs_sub : (a b : ℕ) → nat_abs (sub_ℕ a b) ≤ a + b
-nat_abs_sub a b = by_test (ltb a b) (λ e. rw e (omega (arith, ltb-true a b e))) (λ e. rw e (omega arith))
+nat_abs_sub a b = by_test (ltb a b) (ltb→lt a b)
+  where
+    by_test : (t : Bool) → (T t → a < b) → nat_abs (cond t (negsuc (b - suc a)) (pos (a - b))) ≤ a + b
+    by_test true f = let h : a < b = f tt in omega arith
+    by_test false f = omega arith
 
 pub nat_abs-+ : (a b : ℤ) → nat_abs (a +ℤ b) ≤ nat_abs a + nat_abs b
 nat_abs-+ (pos a) (pos b) = Nat.le_refl (a + b)
@@ -58,14 +61,11 @@ nat_abs_quot (negsuc a) (pos b) = nat_abs_neg (pos (suc a / b))
 nat_abs_quot (negsuc a) (negsuc b) = refl
 
 pub quotient_size : (a b : ℤ) → nat_abs (quot_z a b) ≤ nat_abs a
-quotient_size a b = rw (nat_abs_quot a b) (Nat.div-le_self (nat_abs a) (nat_abs b))
+quotient_size a b = Nat.le_trans (Nat.le_of_eq (nat_abs_quot a b)) (Nat.div-le_self (nat_abs a) (nat_abs b))
 
 pub nat_abs_rem : (a b : ℤ) → nat_abs (rem_z a b) ≡ nat_abs a % nat_abs b
 nat_abs_rem (pos a) b = refl
 nat_abs_rem (negsuc a) b = nat_abs_neg (pos (suc a % nat_abs b))
-
-pub remainder_size : (a b : ℤ) → nat_abs (rem_z a b) ≤ nat_abs a
-remainder_size a b = rw (nat_abs_rem a b) (Nat.mod-le (nat_abs a) (nat_abs b))
 
 -- ---- squares
 

@@ -1,9 +1,23 @@
 //! The proved library, called through its C form. Every lent place is filled with a mark first, and each
 //! call looks that exactly the places named for its code were written.
 
-use conic::library::{conic_book_read, conic_book_write, conic_direction, conic_point, conic_row, conic_solve};
-use conic::library::{DEGENERATE, NONE_BY_PRIME, NONE_BY_SIGN, POINT};
 use second::{Answer, Direction, Point, Reason, Stored, StoredAnswer};
+
+extern "C" {
+    #[rustfmt::skip]
+    fn conic_solve(a: i64, b: i64, c: i64, d: i64, e: i64, f: i64, point: *mut [i64; 3], prime: *mut u64) -> i64;
+    #[rustfmt::skip]
+    fn conic_point(a: i64, b: i64, c: i64, d: i64, e: i64, f: i64, px: i64, py: i64, pz: i64,
+        u: i64, v: i64, point: *mut [i64; 3]) -> i64;
+    #[rustfmt::skip]
+    fn conic_direction(a: i64, b: i64, c: i64, d: i64, e: i64, f: i64, px: i64, py: i64, pz: i64,
+        qx: i64, qy: i64, qz: i64, direction: *mut [i64; 2]) -> i64;
+    fn conic_row(text: *const u8, text_length: usize, out: *mut u8, out_length: usize) -> i64;
+    fn conic_book_write(list: *const u8, list_length: usize, book: *mut u8, book_length: usize) -> i64;
+    #[rustfmt::skip]
+    fn conic_book_read(book: *const u8, length: usize, number: u64, conic: *mut [i64; 6],
+        point: *mut [i64; 3], prime: *mut u64) -> i64;
+}
 
 const MARK: i64 = 0x5a5a_a5a5_1234_4321;
 const MARKED: u64 = 0xa5a5_5a5a_4321_1234;
@@ -34,16 +48,16 @@ pub fn solve(six: [i64; 6]) -> Called<Answer> {
     let (mut point, mut prime) = ([MARK; 3], MARKED);
     // The places are valid, apart, and live through the call.
     let code = unsafe { conic_solve(a, b, c, d, e, f, &mut point, &mut prime) };
-    if code != POINT {
+    if code != 1 {
         untouched(&point, "point")?;
     }
-    if code != NONE_BY_PRIME {
+    if code != 3 {
         unnamed(prime)?;
     }
     match code {
-        POINT => Ok(Answer::Point(point_of(point))),
-        NONE_BY_SIGN => Ok(Answer::None(Reason::Sign)),
-        NONE_BY_PRIME => Ok(Answer::None(Reason::Prime(prime))),
+        1 => Ok(Answer::Point(point_of(point))),
+        2 => Ok(Answer::None(Reason::Sign)),
+        3 => Ok(Answer::None(Reason::Prime(prime))),
         _ => Ok(Answer::Refusal(refusal(code)?)),
     }
 }
@@ -101,17 +115,17 @@ pub fn read_book(book: &[u8], number: u64) -> Called<Result<Stored, u32>> {
     let (mut six, mut point, mut prime) = ([MARK; 6], [MARK; 3], MARKED);
     let (bytes, length) = (book.as_ptr(), book.len());
     let code = unsafe { conic_book_read(bytes, length, number, &mut six, &mut point, &mut prime) };
-    if code != POINT {
+    if code != 1 {
         untouched(&point, "point")?;
     }
-    if code != NONE_BY_PRIME {
+    if code != 3 {
         unnamed(prime)?;
     }
     let answer = match code {
-        POINT => StoredAnswer::Point(point_of(point)),
-        NONE_BY_SIGN => StoredAnswer::None(Reason::Sign),
-        NONE_BY_PRIME => StoredAnswer::None(Reason::Prime(prime)),
-        DEGENERATE => StoredAnswer::Degenerate,
+        1 => StoredAnswer::Point(point_of(point)),
+        2 => StoredAnswer::None(Reason::Sign),
+        3 => StoredAnswer::None(Reason::Prime(prime)),
+        4 => StoredAnswer::Degenerate,
         _ => {
             untouched(&six, "conic")?;
             return Ok(Err(refusal(code)?));

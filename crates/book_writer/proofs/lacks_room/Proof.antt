@@ -1,5 +1,4 @@
--- `book_writer::lacks_room` meets its contract: no book of so many conics is longer than 2 bytes and 21 for each.
--- Assumes nothing.
+-- `book_writer::lacks_room` meets its contract: no book of so many conics is longer than 2 bytes and 21 for each. Assumes nothing.
 use mathlib.Core.Path.{sym, ap}
 use native.Mathlib.Omega.{arith}
 use lib.Dec.{ltb}
@@ -13,11 +12,16 @@ use Rattle.book_writer.proofs.lacks_room.Tie as tie
 
 returns : tie.Need-returns
 returns c =
-    let a = c.before.before.args in
-    sym (le-ltb a.room (length (book_of (conics_of a.list.now))) (omega (arith, list_book_at_most a.list.now)))
+    let start = c.before.before in
+    let list = start.args.list.now in
+    sym (le-ltb start.args.room (length (book_of (conics_of list))) (omega (arith, list_book_at_most list)))
+
+returns_2 : tie.Need-returns-2
+returns_2 c = ap (ltb c.before.before.before.args.room) c.book_length.ensures
 
 pub lacks_room_spec : {M : Type 1} → statement M
 lacks_room_spec =
-    tie.close
-    (tie.spec (λ c. search rules) (λ c. search rules) returns (λ c κs. search rules)
-    (λ c. ap (ltb c.before.before.before.args.room) c.book-length.ensures))
+    tie.close (tie.spec
+    (λ c. search rules)
+    (λ c. search rules) returns
+    (λ c κs. search rules) returns_2)

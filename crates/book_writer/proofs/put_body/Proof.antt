@@ -1,6 +1,6 @@
 -- `book_writer::put_body` meets its contract: the list's bytes are the coefficients. Assumes nothing.
-use native.Mathlib.Omega.{arith}
 use borrow.Author.Rules.{rules}
+use native.Mathlib.Omega.{arith}
 use Rattle.solve.specs.Answer.{solved}
 use Rattle.book.proofs.Laid.{body_stored}
 use Rattle.book_writer.proofs.put_body.Statement.{statement}
@@ -10,14 +10,15 @@ returns : tie.Need-returns
 returns c =
     let added = c.before.before in
     let copied = added.before.before.before.before in
-    let known = copied.before.before.before in
-    let start = known.before in
-    let a = start.args in
-    body_stored a.list.now a.from a.book.now copied.copy.new.1.1.1.0 added.put-added.new.0
-    a.at (solved a.answer) (λ i. omega (arith, known.shared-slice-known.given i)) start.requires.0
-    (omega arith) copied.copy.ensures added.put-added.ensures
+    let start = copied.before.before.before.before in
+    body_stored start.args.list.now start.args.from start.args.book.now copied.copy.new.1.1.1.0 added.put-added.new.0
+    start.args.at (solved start.args.answer) (λ i. omega (arith, copied.before.before.before.shared-slice-known.given i))
+    start.requires.0 (omega arith) copied.copy.ensures added.put-added.ensures
 
 pub put_body_spec : {M : Type 1} → statement M
 put_body_spec =
-    tie.close
-    (tie.spec (λ c κs. search rules) (λ c. search rules) (λ c κs. search rules) (λ c. search rules) returns)
+    tie.close (tie.spec
+    (λ c κs. search rules)
+    (λ c. search rules)
+    (λ c κs. search rules)
+    (λ c. search rules) returns)

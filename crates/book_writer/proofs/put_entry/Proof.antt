@@ -6,13 +6,21 @@ use borrow.Author.Rules.{rules}
 use Rattle.book_writer.proofs.put_entry.Statement.{statement}
 use Rattle.book_writer.proofs.put_entry.Tie as tie
 
+put_two_requires : tie.Need-put-two-requires
+put_two_requires c κs = simp length-set (omega arith)
+
 same_length : tie.Need-same-length
 same_length c =
-    let a = c.before.before.before.before.before.args in
-    omega (arith, c.before.before.put_two.auto.0, length-set a.book.now a.at a.kind)
+    let start = c.before.before.before.before.before in
+    omega (arith, c.before.before.put_two.auto.0, length-set start.args.book.now start.args.at start.args.kind)
+
+returns : tie.Need-returns
+returns c = rw add-one at c.before.before.put_two.ensures
 
 pub put_entry_spec : {M : Type 1} → statement M
 put_entry_spec =
     tie.close
-    (tie.spec (λ c. search rules) (λ c. search rules) (λ c. search rules) (λ c κs. simp length-set (omega arith))
-    same_length (λ c. rw add-one at c.before.before.put_two.ensures))
+    (tie.spec
+    (λ c. search rules)
+    (λ c. search rules)
+    (λ c. search rules) put_two_requires same_length returns)

@@ -1,41 +1,50 @@
 -- `book_writer::put_point` meets its contract: three runs of four bytes are one run. Assumes nothing.
-use mathlib.Core.Path.{◌≡◌}
-use Prim.Native.Nat.{◌≤◌}
-use native.Mathlib.Numerals.{towards_suc}
+use mathlib.Core.List.{List}
+use mathlib.Core.Path.{◌≡◌, ap, ◌∙◌}
+use Prim.Native.Nat.{ℕ, ◌+◌, ◌≤◌}
 use lib.IntN.{ℤ, nat_abs}
+use lib.Seq.{sets}
 use borrow.Author.Rules.{rules}
 use mir.Facts.{to_z-of_z}
 use mir.Syntax.{w64}
 use mir.Val.{to_z, of_z}
 use Rattle.whole.proofs.Signed.{sizes, fits}
-use Rattle.little_endian.specs.Bytes.{bytes, four_byte_limit}
+use Rattle.point.specs.Paper.{point_limit}
+use Rattle.book.specs.Bytes.{bytes, unsigned}
+use Rattle.book.proofs.LittleEndian.{length_four}
+use Rattle.book.proofs.Stores.{sets_three}
 use Rattle.book_writer.proofs.put_point.Statement.{statement}
 use Rattle.book_writer.proofs.put_point.Tie as tie
 
 -- a number that was handed over is read back
-passed : (n : ℤ) → nat_abs n ≤ four_byte_limit → to_z w64 (of_z w64 n) ≡ n
-passed n small = to_z-of_z (fits w64 (search sizes depth 60 fits 9999) tt)
+passed :
+    (book : List ℕ) (at : ℕ) (n : ℤ) {r : List ℕ} → nat_abs n ≤ point_limit →
+    r ≡ sets book at (bytes 4 (unsigned 4 (to_z w64 (of_z w64 n)))) → r ≡ sets book at (bytes 4 (unsigned 4 n))
+passed book at n small e =
+    e ∙ ap (λ (m : ℤ). sets book at (bytes 4 (unsigned 4 m))) (to_z-of_z (fits w64 (search sizes depth 60 fits 9999) tt))
 
 returns : tie.Need-returns
-unfolding bytes
 returns c =
     let third = c.before.before in
     let second = third.before.before.before.before.before in
     let first = second.before.before.before.before.before in
     let start = first.before.before.before.before in
     let p = start.args.p in
-    simp (
-      towards_suc,
-      third.put-signed3.ensures,
-      second.put-signed2.ensures,
-      first.put-signed.ensures,
-      passed p.x start.requires.1.x_within,
-      passed p.y start.requires.1.y_within,
-      passed p.z start.requires.1.z_within,
-    )
+    sets_three start.args.book.now first.put-signed.new.0 second.put-signed2.new.0 third.put-signed3.new.0 start.args.at
+    (bytes 4 (unsigned 4 p.x)) (bytes 4 (unsigned 4 p.y)) (bytes 4 (unsigned 4 p.z))
+    (length_four (unsigned 4 p.x)) (length_four (unsigned 4 p.y))
+    (passed start.args.book.now start.args.at p.x start.requires.1.x_within first.put-signed.ensures)
+    (passed first.put-signed.new.0 (start.args.at + 4) p.y start.requires.1.y_within second.put-signed2.ensures)
+    (passed second.put-signed2.new.0 (start.args.at + 8) p.z start.requires.1.z_within third.put-signed3.ensures)
 
 pub put_point_spec : {M : Type 1} → statement M
 put_point_spec =
     tie.close
-    (tie.spec (λ c κs. search rules) (λ c. search rules) (λ c κs. search rules) (λ c. search rules)
-    (λ c κs. search rules) (λ c. search rules) returns)
+    (tie.spec
+    (λ c κs. search rules)
+    (λ c. search rules)
+    (λ c κs. search rules)
+    (λ c. search rules)
+    (λ c κs. search rules)
+    (λ c. search rules)
+    returns)

@@ -7,6 +7,21 @@ use Rattle.conic_c.proofs.Handing.{book_read_handed}
 use Rattle.conic_c.proofs.conic_book_read.Statement.{statement}
 use Rattle.conic_c.proofs.conic_book_read.Tie as tie
 
+read_requires : tie.Need-read-requires
+read_requires c κs = search rules
+
+enum_known_h : tie.Need-enum-known-h
+enum_known_h c = search rules
+
+put_entry_requires : tie.Need-put-entry-requires
+put_entry_requires c κs = search rules
+
+enum_known_refusal : tie.Need-enum-known-refusal
+enum_known_refusal c = search rules
+
+refused_requires : tie.Need-refused-requires
+refused_requires c κs = search rules
+
 returns : tie.Need-returns
 returns c =
     let at_entry_lem = c.before.before.before.before.before in
@@ -24,5 +39,11 @@ returns_2 c =
 pub conic_book_read_spec : {M : Type 1} → statement M
 conic_book_read_spec =
     tie.close
-    (tie.spec (λ c κs. search rules) (λ c. search rules) (λ c κs. search rules) (λ c. search rules)
-    (λ c κs. search rules) returns returns_2)
+    (tie.spec
+    read_requires
+    enum_known_h
+    put_entry_requires
+    enum_known_refusal
+    refused_requires
+    returns
+    returns_2)

@@ -1,21 +1,66 @@
--- `conic_c::conic_row` meets its promise: the length of the row fits a code. Assumes nothing.
-use mathlib.Core.Path.{ap, ◌∙◌}
-use mir.Facts.{to_z-of_z}
+-- `conic_c::conic_row` meets its promise: the length of the row is handed over as it is, and
+-- it fits a code, since it is at most that of the buffer. Assumes nothing.
+use mathlib.Core.Path.{refl}
+use Prim.Native.Nat.{◌<◌, ◌^◌}
+use native.Mathlib.Omega.{arith}
+use mir.Facts.{to_z-of_z, to_z_pos}
 use mir.Syntax.{w64}
 use borrow.Author.Rules.{rules}
-use Rattle.conic_c.specs.Codes.{length_code}
-use Rattle.conic_c.proofs.Lengths.{row_fits}
+use Rattle.conic_c.proofs.Handing.{row_handed}
+use Rattle.conic_c.proofs.Lengths.{row_within}
 use Rattle.conic_c.proofs.conic_row.Statement.{statement}
 use Rattle.conic_c.proofs.conic_row.Tie as tie
 
+row_requires : tie.Need-row-requires
+row_requires c κs = search rules
+
+enum_known_n : tie.Need-enum-known-n
+enum_known_n c = search rules
+
+length_fits : (c : tie.After-n) → c.n.given.0.0 < 2 ^ 63
+length_fits c =
+    let at_row = c.before.before.before.before in
+    omega (arith, row_within {n = c.n.given.0.0} (rw c.n.given.1 at at_row.row.ensures) at_row.row.auto.1.0)
+
+cast_result : tie.Need-overflow-cast-result
+cast_result c = record { sfits = length_fits c.before }
+
+enum_known_refusal : tie.Need-enum-known-refusal
+enum_known_refusal c = search rules
+
+refused_requires : tie.Need-refused-requires
+refused_requires c κs = search rules
+
+same_length : tie.Need-same-length
+same_length c = search rules
+
 returns : tie.Need-returns
 returns c =
-    let promise = c.before.before.before.row.ensures in
-    rw (to_z-of_z {w = w64} (record { sfits = c.length-code.type-inv }))
-    (record { code_is = c.length-code.ensures ∙ ap length_code promise.answer; out_is = promise.buffer })
+    let at_n = c.before in
+    rw (to_z_pos w64 (length_fits at_n))
+    (row_handed (rw at_n.n.given.1 at at_n.before.before.before.before.row.ensures) refl)
+
+same_length_2 : tie.Need-same-length-2
+same_length_2 c = search rules
+
+returns_2 : tie.Need-returns-2
+returns_2 c =
+    let at_refusal = c.before.before in
+    rw (to_z-of_z {w = w64} (record { sfits = c.refused.type-inv }))
+    (row_handed
+    (rw at_refusal.refusal.given.1 at at_refusal.before.before.before.before.row.ensures)
+    c.refused.ensures)
 
 pub conic_row_spec : {M : Type 1} → statement M
 conic_row_spec =
     tie.close
-    (tie.spec (λ c κs. search rules)
-    (λ c κs. rw c.before.before.row.ensures.answer (row_fits _ _)) (λ c. search rules) returns)
+    (tie.spec
+    row_requires
+    enum_known_n
+    cast_result
+    enum_known_refusal
+    refused_requires
+    same_length
+    returns
+    same_length_2
+    returns_2)

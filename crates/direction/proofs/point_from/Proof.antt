@@ -1,41 +1,47 @@
--- `direction::point_from` meets its contract: each refusal is given for its cause, and without one the step has room. Assumes nothing.
-use mathlib.Core.Path.{sym, ◌∙◌}
-use borrow.Author.Rules.{rules}
-use Rattle.basic.proofs.Tests.{refutes}
-use Rattle.conic.specs.Base.{LegalBase}
-use Rattle.conic.proofs.Promise.{legal_base, cause_of_refused}
-use Rattle.direction.specs.Direction.{LegalDirection}
-use Rattle.direction.specs.Refusals.{base_refused, no_direction}
-use Rattle.direction.proofs.Entries.{legal_direction_iff, reached_point, reached_none}
-use Rattle.direction.proofs.Room.{along_direction}
+-- `direction::point_from` meets its contract: the direction is handed over as the point (u, v, 0). Assumes nothing.
+use mathlib.Core.Path.{◌≡◌, refl, sym, ap, subst, ◌∙◌}
+use lib.IntN.{pos}
+use mir.Syntax.{w64}
+use mir.Val.{to_z, of_z}
+use mir.Facts.{to_z-of_z}
+use borrow.Author.Rules.{sfits_of}
+use Rattle.point.specs.Normal.{normal, at_infinity}
+use Rattle.point.specs.declared.Point.{Point}
+use Rattle.point.specs.declared.Direction.{Direction}
+use Rattle.point.proofs.Vector.{same_point}
+use Rattle.conic.specs.Sizes.{ConicAlong}
+use Rattle.conic.specs.Form.{drawn}
+use Rattle.conic.specs.declared.conic.Conic.{Conic}
+use Rattle.direction.specs.Direction.{point_from}
 use Rattle.direction.proofs.point_from.Statement.{statement}
 use Rattle.direction.proofs.point_from.Tie as tie
 
-based : (c : tie.After-enum-told) → let a = c.before.before.before.args in LegalBase a.h a.base
-based c = legal_base c.before.before.judge.ensures c.enum_told.given.1
+at_infinity_lem : (t : Direction) → record { x = t.u; y = t.v; z = pos 0 } ≡ at_infinity t
+unfolding at_infinity
+at_infinity_lem t = refl
 
-aims : (c : tie.Then1) → let a = c.before.before.before.before.before.args in LegalDirection a.h a.base a.t
-aims c = (legal_direction_iff _ _).0 (sym c.before.is_legal.ensures ∙ c.if1.true)
+in_words : (h : Conic) (p : Point) (t : Direction) → normal (drawn h p (at_infinity t)) ≡ point_from h p t
+unfolding point_from
+in_words h p t = refl
+
+handed_over :
+    (c : tie.After-struct-told) →
+    record { x = to_z w64 (of_z w64 c.before.args.t.u); y = to_z w64 (of_z w64 c.before.args.t.v); z = pos 0 }
+    ≡ at_infinity c.before.args.t
+handed_over c =
+    same_point
+    (to_z-of_z {w = w64} {z = c.before.args.t.u} (search sfits_of))
+    (to_z-of_z {w = w64} {z = c.before.args.t.v} (search sfits_of))
+    refl
+    ∙ at_infinity_lem c.before.args.t
+
+other_point_requires : tie.Need-other-point-requires
+other_point_requires c κs = subst (ConicAlong c.before.args.h c.before.args.p) (sym (handed_over c)) c.before.requires
 
 returns : tie.Need-returns
 returns c =
-    let found = c.before in
-    reached_none (base_refused (cause_of_refused found.before.before.judge.ensures found.refusal.given.1))
-
-returns_3 : tie.Need-returns-3
-returns_3 c =
-    reached_none
-    (no_direction (based c.before.before) (refutes (legal_direction_iff _ _) (sym c.before.is_legal.ensures ∙ c.if1.false)))
+    let args = c.before.before.args in
+    c.other-point.ensures ∙ ap (λ (t : Point). normal (drawn args.h args.p t)) (handed_over c.before) ∙ in_words _ _ _
 
 pub point_from_spec : {M : Type 1} → statement M
-point_from_spec =
-    tie.close
-    (tie.spec
-    (λ c κs. search rules)
-    (λ c. search rules)
-    returns
-    (λ c. search rules)
-    (λ c κs. search rules)
-    (λ c κs. along_direction (based c.before.before) (aims c))
-    (λ c. reached_point (based c.before.before.before) (aims c.before) c.point-from.ensures)
-    returns_3)
+point_from_spec = tie.close (tie.spec other_point_requires returns)

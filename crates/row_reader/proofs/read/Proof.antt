@@ -1,6 +1,6 @@
--- `row_reader::read` meets its contract. The loop's invariant: the steps over what is left, from here, give what the
--- whole row holds. The measure is what is left of the text. Assumes nothing.
-use mathlib.Core.Path.{◌≡◌, sym, ap, ◌∙◌}
+-- `row_reader::read` meets its contract. The loop's invariant: the steps over what is left, from here, give what the whole row
+-- holds. The measure is what is left of the text. Assumes nothing.
+use mathlib.Core.Path.{◌≡◌, sym, ap, ◌∙◌, subst}
 use mathlib.Core.List.{List}
 use Prim.Native.Nat.{ℕ, ◌+◌, ◌-◌, ◌≤◌, ◌<◌, zero-le}
 use native.Mathlib.Numerals.{add-one}
@@ -32,26 +32,42 @@ invariant-loop text reader₀ i₀ reader i =
 abbrev decreases-loop : tie.decreases-loop
 decreases-loop text reader₀ i₀ reader i = length text - i
 
+loop_holds : tie.Need-loop-init invariant-loop decreases-loop
+loop_holds c = (legal_start, zero-le, steps_read c.before.args.text.now)
+
+shared_slice_read_step : tie.Need-shared-slice-read-step invariant-loop decreases-loop
+shared_slice_read_step c = omega arith
+
+step_requires : tie.Need-step-requires invariant-loop decreases-loop
+step_requires c κs = c.before.before.loop.invariant.0
+
+add_i : tie.Need-overflow-add-i invariant-loop decreases-loop
+add_i c = omega arith
+
+loop_less : tie.Need-loop-smaller invariant-loop decreases-loop
+loop_less c = omega arith
+
 loop_again : tie.Need-loop-preserved invariant-loop decreases-loop
 loop_again c =
-    let loop = c.before.before.before.loop in
     let text = c.before.before.before.before.before.args.text.now in
-    rw c.step.ensures (
-      legal_after loop.reader (get_or text loop.i 0) loop.invariant.0,
+    let reader = c.before.before.before.loop.reader in
+    let i = c.before.before.before.loop.i in (
+      subst LegalReader (sym c.step.ensures) (legal_after reader (get_or text i 0) c.before.before.before.loop.invariant.0),
       omega arith,
-      sym (ap reader_end (one_step text loop.reader loop.i c.before.before.loop-test.true)) ∙ loop.invariant.2,
+      ap (λ (r : Reader). reader_end (steps r (drop (i + 1) text))) c.step.ensures
+          ∙ sym (ap reader_end (one_step text reader i c.before.before.loop-test.true))
+          ∙ c.before.before.before.loop.invariant.2,
     )
+
+end_requires : tie.Need-end-requires invariant-loop decreases-loop
+end_requires c κs = c.before.loop.invariant.0
 
 returns : tie.Need-returns invariant-loop decreases-loop
 returns c =
-    let loop = c.before.before.loop in
     let text = c.before.before.before.before.args.text.now in
-    record {
-      as_defined =
-          c.end.ensures
-          ∙ sym (ap reader_end (at_end text loop.reader loop.i c.before.loop-test.false))
-          ∙ loop.invariant.2;
-    }
+    c.end.ensures
+    ∙ sym (ap reader_end (at_end text c.before.before.loop.reader c.before.before.loop.i c.before.loop-test.false))
+    ∙ c.before.before.loop.invariant.2
 
 pub read_spec : {M : Type 1} → statement M
 read_spec =
@@ -59,11 +75,11 @@ read_spec =
     (tie.spec
     invariant-loop
     decreases-loop
-    (λ c. (legal_start, zero-le, steps_read c.before.args.text.now))
-    (λ c. omega arith)
-    (λ c κs. c.before.before.loop.invariant.0)
-    (λ c. omega arith)
-    (λ c. omega arith)
+    loop_holds
+    shared_slice_read_step
+    step_requires
+    add_i
+    loop_less
     loop_again
-    (λ c κs. c.before.loop.invariant.0)
+    end_requires
     returns)

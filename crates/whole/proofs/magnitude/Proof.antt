@@ -40,11 +40,23 @@ size_is (negsuc n) h = add-one n
 negative : (c : lts.Then1 reads.Pre reads.Post) → c.before.args.x <ℤ pos 0
 negative c = lt_z_true (tells (search (ranges, tests)) tt c.if1.true)
 
+sub_result : tie.Need-overflow-sub-result
+sub_result c = turned_fits _ c.before.ranges.x (negative c)
+
+cast_result : tie.Need-overflow-cast-result
+cast_result c = rw (kept_is _ c.before.ranges.x (negative c)) (tt, omega (arith, c.before.ranges.x.sfits))
+
+add_result : tie.Need-overflow-add-result
+add_result c = rw (kept_is _ c.before.ranges.x (negative c)) (omega (arith, c.before.ranges.x.sfits))
+
+cast_result_2 : tie.Need-overflow-cast-result-2
+cast_result_2 c = cast_unsigned c.before.ranges.x (lt_z_false (tells (search (ranges, tests)) tt c.if1.false))
+
+returns : tie.Need-returns
+returns c = rw (kept_is _ c.before.ranges.x (negative c)) (size_is _ (negative c))
+
+returns_2 : tie.Need-returns-2
+returns_2 c = search rules
+
 pub magnitude_spec : {M : Type 1} → statement M
-magnitude_spec =
-    tie.close
-    (tie.spec (λ c. turned_fits _ c.before.ranges.x (negative c))
-    (λ c. rw (kept_is _ c.before.ranges.x (negative c)) (tt, omega (arith, c.before.ranges.x.sfits)))
-    (λ c. rw (kept_is _ c.before.ranges.x (negative c)) (omega (arith, c.before.ranges.x.sfits)))
-    (λ c. cast_unsigned c.before.ranges.x (lt_z_false (tells (search (ranges, tests)) tt c.if1.false)))
-    (λ c. rw (kept_is _ c.before.ranges.x (negative c)) (size_is _ (negative c))) (λ c. search rules))
+magnitude_spec = tie.close (tie.spec sub_result cast_result add_result cast_result_2 returns returns_2)

@@ -12,6 +12,16 @@ returns c = search (same_conic, rules)
 pub conic_at_spec : {M : Type 1} → statement M
 conic_at_spec =
     tie.close
-    (tie.spec (λ c κs. search rules) (λ c. search rules) (λ c κs. search rules) (λ c. search rules)
-    (λ c κs. search rules) (λ c. search rules) (λ c κs. search rules) (λ c. search rules) (λ c κs. search rules)
-    (λ c. search rules) (λ c κs. search rules) returns)
+    (tie.spec
+    (λ c κs. search rules)
+    (λ c. search rules)
+    (λ c κs. search rules)
+    (λ c. search rules)
+    (λ c κs. search rules)
+    (λ c. search rules)
+    (λ c κs. search rules)
+    (λ c. search rules)
+    (λ c κs. search rules)
+    (λ c. search rules)
+    (λ c κs. search rules)
+    returns)

@@ -1,5 +1,4 @@
--- `conic_c::place::put_answer` meets its contract: a point and a none are each handed over in its own place. Assumes
--- nothing.
+-- `conic_c::place::put_answer` meets its contract: a point and a none are each handed over in its own place. Assumes nothing.
 use mathlib.Core.Path.{refl}
 use mir.Facts.{to_z-of_z}
 use mir.Syntax.{w64}
@@ -7,6 +6,18 @@ use borrow.Author.Rules.{rules}
 use Rattle.conic_c.proofs.Handing.{none_handed}
 use Rattle.conic_c.proofs.place.put_answer.Statement.{statement}
 use Rattle.conic_c.proofs.place.put_answer.Tie as tie
+
+enum_known_answer : tie.Need-enum-known-answer
+enum_known_answer c = search rules
+
+put_point_requires : tie.Need-put-point-requires
+put_point_requires c κs = search rules
+
+enum_known_answer_2 : tie.Need-enum-known-answer-2
+enum_known_answer_2 c = search rules
+
+put_reason_requires : tie.Need-put-reason-requires
+put_reason_requires c κs = search rules
 
 returns : tie.Need-returns
 returns c =
@@ -22,4 +33,4 @@ returns_2 c =
 pub put_answer_spec : {M : Type 1} → statement M
 put_answer_spec =
     tie.close
-    (tie.spec (λ c. search rules) (λ c κs. search rules) (λ c. search rules) (λ c κs. search rules) returns returns_2)
+    (tie.spec enum_known_answer put_point_requires enum_known_answer_2 put_reason_requires returns returns_2)

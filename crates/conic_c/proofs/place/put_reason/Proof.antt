@@ -4,6 +4,12 @@ use borrow.Author.Rules.{rules}
 use Rattle.conic_c.proofs.place.put_reason.Statement.{statement}
 use Rattle.conic_c.proofs.place.put_reason.Tie as tie
 
+enum_told : tie.Need-enum-told
+enum_told c = search rules
+
+enum_known_reason : tie.Need-enum-known-reason
+enum_known_reason c = search rules
+
 returns : tie.Need-returns
 returns c = rw c.enum_told.given.1 (record { code_is = refl; prime_is = refl })
 
@@ -11,4 +17,4 @@ returns_2 : tie.Need-returns-2
 returns_2 c = rw c.before.reason.given.1 (record { code_is = refl; prime_is = refl })
 
 pub put_reason_spec : {M : Type 1} → statement M
-put_reason_spec = tie.close (tie.spec (λ c. search rules) (λ c. search rules) returns returns_2)
+put_reason_spec = tie.close (tie.spec enum_told enum_known_reason returns returns_2)

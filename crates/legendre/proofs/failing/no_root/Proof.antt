@@ -1,38 +1,50 @@
--- `legendre::failing::no_root` meets its contract: there is nothing for a root where the number is no square. Assumes
--- nothing.
-use mathlib.Core.Path.{◌≡◌, refl}
+-- `legendre::failing::no_root` meets its contract: there is nothing for a root where the number is no square. Assumes nothing.
+use mathlib.Core.Path.{◌≡◌, refl, sym, ap, ◌∙◌}
 use mathlib.Core.Bool.{Bool, true, false, not}
 use Prim.Native.Nat.{ℕ}
+use lib.IntN.{ℤ}
 use mir.Facts.{to_z-of_z}
 use Rattle.number.specs.Residue.{is_square_modulo, least_root_of}
 use Rattle.number.specs.Root.{least_root, least_if}
+use Rattle.number.specs.declared.residue.Root.{Root}
 use Rattle.number.specs.declared.residue.Root.TheVariants.{Least, Nothing}
 use Rattle.legendre.proofs.failing.no_root.Statement.{statement}
 use Rattle.legendre.proofs.failing.no_root.Tie as tie
 
-nothing_found : (b : Bool) (s : ℕ) → Nothing ≡ least_if b s → true ≡ not b
-nothing_found true s e = cc
-nothing_found false s e = refl
+is_nothing : Root → Bool
+is_nothing (Least r) = false
+is_nothing Nothing = true
 
-root_found : (b : Bool) (r s : ℕ) → Least r ≡ least_if b s → false ≡ not b
-root_found true r s e = refl
-root_found false r s e = cc
+nothing_iff : (b : Bool) (r : ℕ) → is_nothing (least_if b r) ≡ not b
+unfolding is_nothing
+nothing_iff true r = refl
+nothing_iff false r = refl
+
+-- what a root says of the number's being a square
+told : {found : Root} (l : ℕ) {n m : ℤ} → found ≡ least_root l n → n ≡ m → is_nothing found ≡ not (is_square_modulo l m)
+unfolding least_root
+told l {n} {m} e same = ap is_nothing e ∙ nothing_iff (is_square_modulo l n) (least_root_of l n) ∙ ap (λ (k : ℤ). not (is_square_modulo l k)) same
+
+least_root_requires : tie.Need-least-root-requires
+least_root_requires c κs = search
+
+enum_told : tie.Need-enum-told
+enum_told c = search
+
+enum_told_2 : tie.Need-enum-told-2
+enum_told_2 c = search
 
 returns : tie.Need-returns
-unfolding least_root
+unfolding is_nothing
 returns c =
-    let at_root = c.before.before in
-    let arg = at_root.before.args in
-    nothing_found (is_square_modulo arg.prime arg.number) (least_root_of arg.prime arg.number)
-    (rw (c.enum_told.given.1, to_z-of_z at_root.before.ranges.number) at at_root.least_root_lem.ensures)
+    let s = c.before.before.before in
+    ap is_nothing (sym c.enum_told.given.1) ∙ told s.args.prime c.before.before.least_root_lem.ensures (to_z-of_z s.ranges.number)
 
 returns_2 : tie.Need-returns-2
-unfolding least_root
+unfolding is_nothing
 returns_2 c =
-    let at_root = c.before.before in
-    let arg = at_root.before.args in
-    root_found (is_square_modulo arg.prime arg.number) _ (least_root_of arg.prime arg.number)
-    (rw (c.enum-told2.given.1, to_z-of_z at_root.before.ranges.number) at at_root.least_root_lem.ensures)
+    let s = c.before.before.before in
+    ap is_nothing (sym c.enum-told2.given.1) ∙ told s.args.prime c.before.before.least_root_lem.ensures (to_z-of_z s.ranges.number)
 
 pub no_root_spec : {M : Type 1} → statement M
-no_root_spec = tie.close (tie.spec (λ c κs. search) (λ c. search) (λ c. search) returns returns_2)
+no_root_spec = tie.close (tie.spec least_root_requires enum_told enum_told_2 returns returns_2)

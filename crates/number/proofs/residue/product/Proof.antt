@@ -6,8 +6,14 @@ use Rattle.number.proofs.Modulo.{small_product}
 use Rattle.number.proofs.residue.product.Statement.{statement}
 use Rattle.number.proofs.residue.product.Tie as tie
 
+mul_result : tie.Need-overflow-mul-result
+mul_result c = record { fits = small_product (omega arith) (omega arith) }
+
+rem_result : tie.Need-nonzero-rem-result
+rem_result c = omega arith
+
+returns : tie.Need-returns
+returns c = record { value = search; below = mod-lt (c.args.a * c.args.b) (omega arith) }
+
 pub product_spec : {M : Type 1} → statement M
-product_spec =
-    tie.close
-    (tie.spec (λ c. record { fits = small_product (omega arith) (omega arith) }) (λ c. omega arith)
-    (λ c. record { value = search; below = mod-lt (c.args.a * c.args.b) (omega arith) }))
+product_spec = tie.close (tie.spec mul_result rem_result returns)

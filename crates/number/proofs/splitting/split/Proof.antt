@@ -1,39 +1,49 @@
--- `number::splitting::split` meets its contract: the square of the square part is at most n, and the quotient of n by
--- it is how the free part is defined. Assumes nothing.
-use mathlib.Core.Path.{◌≡◌, ap}
-use Prim.Native.Nat.{ℕ, ◌*◌, ◌/◌, ◌≤◌, ◌<◌}
+-- `number::splitting::split` meets its contract: the square part of n is that of its size, and the quotient of n by its square is how
+-- the free part is defined. Assumes nothing.
+use mathlib.Core.Path.{◌≡◌, ◌∙◌, ap}
+use Prim.Native.Nat.{◌<◌}
 use native.Mathlib.Nat.{mul-pos}
 use native.Mathlib.Omega.{arith}
-use lib.IntN.{pos, nat_abs}
-use Rattle.number.specs.Least.{first_from, least, greatest}
-use Rattle.number.specs.Square.{root_of}
-use Rattle.number.specs.Squarefree.{square_part, free_part}
-use Rattle.number.specs.Split.{split_of}
-use Rattle.number.proofs.SquarefreeSplit.{square_part_positive, square_part_squared_at_most}
+use lib.IntN.{pos}
+use mir.Syntax.{w64}
+use mir.Val.{of_z}
+use mir.Facts.{to_z-of_z}
+use Rattle.number.specs.Squarefree.{square_part}
+use Rattle.number.proofs.SquarefreeSplit.{square_part_positive}
+use Rattle.number.proofs.SplitFits.{zero_of_bits, split_of_zero, square_fits, quotient_fits, split_reads}
 use Rattle.number.proofs.splitting.split.Statement.{statement}
 use Rattle.number.proofs.splitting.split.Tie as tie
 
-split_of_zero : {n : ℕ} → n ≡ 0 → record { free = 0; square = 0 } ≡ split_of n
-unfolding free_part square_part greatest root_of least first_from
-split_of_zero e = rw e
+returns : tie.Need-returns
+returns c = split_of_zero (zero_of_bits c.before.ranges.n c.if1.true)
 
-module _ (n : ℕ) {s : ℕ} (part : s ≡ square_part (pos n)) where
-  square_at_most : s * s ≤ n
-  square_at_most = rw part (square_part_squared_at_most (pos n))
+magnitude_requires : tie.Need-magnitude-requires
+magnitude_requires c κs = search
 
-  square_positive : ¬ (n ≡ 0) → 0 < s * s
-  square_positive n≢0 =
-      let s_positive : 0 < s = rw part (square_part_positive (pos n) (λ e. n≢0 (ap nat_abs e))) in
-      mul-pos s_positive s_positive
+square_part_requires : tie.Need-square-part-requires
+square_part_requires c κs = search
 
-  split_other : record { free = n / (s * s); square = s } ≡ split_of n
-  unfolding free_part
-  split_other = rw part
+part : (c : tie.After-square-part) → c.square-part.result ≡ square_part c.before.before.before.args.n
+unfolding square_part
+part c =
+    c.square-part.ensures ∙ ap (λ n. square_part (pos n)) c.before.magnitude.ensures
+    ∙ ap square_part (to_z-of_z c.before.before.before.ranges.n)
+
+part_positive : (c : tie.After-square-part) → 0 < c.square-part.result
+part_positive c =
+    rw (part c) (square_part_positive c.before.before.before.args.n (λ e. c.before.before.if1.false (ap (of_z w64) e)))
+
+mul_free : tie.Need-overflow-mul-free
+mul_free c = omega (arith, square_fits c.before.before.before.ranges.n (part c))
+
+cast_free : tie.Need-overflow-cast-free
+cast_free c = square_fits c.before.before.before.ranges.n (part c)
+
+div_free : tie.Need-nonzero-div-free
+div_free c = (mul-pos (part_positive c) (part_positive c), quotient_fits c.before.before.before.ranges.n (part c))
+
+returns_2 : tie.Need-returns-2
+returns_2 c = split_reads c.before.before.before.ranges.n (part c)
 
 pub split_spec : {M : Type 1} → statement M
-split_spec =
-    tie.close
-    (tie.spec (λ c. split_of_zero c.if1.true) (λ c κs. search)
-    (λ c. omega (arith, square_at_most c.before.before.args.n c.square-part.ensures))
-    (λ c. square_positive c.before.before.args.n c.square-part.ensures c.before.if1.false)
-    (λ c. split_other c.before.before.args.n c.square-part.ensures))
+split_spec = tie.close (tie.spec returns magnitude_requires square_part_requires mul_free cast_free div_free returns_2)

@@ -4,7 +4,7 @@ use mir.Syntax.{w64}
 use mir.Val.{SFits, to_z, of_z}
 use mir.Facts.{to_z-of_z}
 use borrow.Author.Rules.{rules, sfits_of}
-use Rattle.point.specs.Normal.{normal, at_infinity, normal_direction}
+use Rattle.point.specs.Normal.{normal_within, at_infinity, normal_direction_within}
 use Rattle.point.specs.declared.Point.{Point}
 use Rattle.point.specs.declared.Direction.{Direction}
 use Rattle.point.proofs.Vector.{same_point}
@@ -12,16 +12,15 @@ use Rattle.point.proofs.Direction.normal.Statement.{statement}
 use Rattle.point.proofs.Direction.normal.Tie as tie
 
 first_two : (p : Point) (t : Direction) → SFits w64 p.x → SFits w64 p.y →
-    p ≡ normal (record { x = to_z w64 (of_z w64 t.u); y = to_z w64 (of_z w64 t.v); z = to_z w64 0 }) →
+    p ≡ normal_within (record { x = to_z w64 (of_z w64 t.u); y = to_z w64 (of_z w64 t.v); z = to_z w64 0 }) →
     SFits w64 t.u → SFits w64 t.v →
-    record { u = to_z w64 (of_z w64 p.x); v = to_z w64 (of_z w64 p.y) } ≡ normal_direction t
-unfolding normal_direction at_infinity
+    record { u = to_z w64 (of_z w64 p.x); v = to_z w64 (of_z w64 p.y) } ≡ normal_direction_within t
+unfolding normal_direction_within at_infinity
 first_two p t f g e h k =
-    let is : p ≡ normal (at_infinity t) = e ∙ ap normal (same_point (to_z-of_z h) (to_z-of_z k) refl) in
+    let is : p ≡ normal_within (at_infinity t) = e ∙ ap normal_within (same_point (to_z-of_z h) (to_z-of_z k) refl) in
     λ i. record { u = (to_z-of_z f ∙ ap (λ q. q.x) is) i; v = (to_z-of_z g ∙ ap (λ q. q.y) is) i }
 
 normal_requires : tie.Need-normal-requires
-unfolding at_infinity
 normal_requires c κs = search rules
 
 returns : tie.Need-returns

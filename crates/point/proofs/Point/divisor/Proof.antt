@@ -36,11 +36,17 @@ unfolding signed
 other_sign (pos m) n h = refl
 other_sign (negsuc m) n h = clash_ℤ (negsuc-<ℤ_pos m 0) h
 
+common_factor_requires : tie.Need-common-factor-requires
+common_factor_requires c κs = search rules
+
 result_at_most : (c : tie.After-common-factor) → c.common-factor.result ≤ largest
 result_at_most c = rw c.common-factor.ensures (factor_at_most _ c.before.requires)
 
 cast_factor : tie.Need-overflow-cast-factor
 cast_factor c = let small = result_at_most c in fits w64 (search casts depth 60 fits 9999) tt
+
+leading_requires : tie.Need-leading-requires
+leading_requires c κs = search rules
 
 sub_result : tie.Need-overflow-sub-result
 sub_result c = let small = result_at_most c.before.before in fits w64 (search casts depth 60 fits 9999) tt
@@ -60,4 +66,4 @@ returns_2 c =
     ∙ ap₂ signed c.before.leading.ensures c.before.before.common-factor.ensures)
 
 pub divisor_spec : {M : Type 1} → statement M
-divisor_spec = tie.close (tie.spec (λ c κs. search rules) cast_factor (λ c κs. search rules) sub_result returns returns_2)
+divisor_spec = tie.close (tie.spec common_factor_requires cast_factor leading_requires sub_result returns returns_2)

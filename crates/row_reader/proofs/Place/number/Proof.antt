@@ -11,18 +11,27 @@ use Rattle.row_reader.proofs.Steps.{value_below}
 use Rattle.row_reader.proofs.Place.number.Statement.{statement}
 use Rattle.row_reader.proofs.Place.number.Tie as tie
 
-small : (c : tie.Start) → c.args.self.value ≤ 1_000_000
-small c = omega (arith, value_below 6 c.requires c.requires.digits_within)
+cast_value : tie.Need-overflow-cast-value
+cast_value c =
+    let small : c.before.args.self.value ≤ 1_000_000 = omega (arith, value_below c.before.requires) in
+    fits w64 (search casts depth 60 fits 9999) tt
+
+sub_result : tie.Need-overflow-sub-result
+sub_result c =
+    let small : c.before.before.args.self.value ≤ 1_000_000 = omega (arith, value_below c.before.before.requires) in
+    fits w64 (search casts depth 60 fits 9999) tt
+
+returns : tie.Need-returns
+unfolding current
+returns c =
+    let small : c.before.before.args.self.value ≤ 1_000_000 = omega (arith, value_below c.before.before.requires) in
+    reads (search casts depth 60 fits 9999) tt (+ℤ_idl (neg_ℤ (pos c.before.before.args.self.value)) ∙ simp c.if1.true)
+
+returns_2 : tie.Need-returns-2
+unfolding current
+returns_2 c =
+    let small : c.before.before.args.self.value ≤ 1_000_000 = omega (arith, value_below c.before.before.requires) in
+    reads (search casts depth 60 fits 9999) tt (simp c.if1.false)
 
 pub number_spec : {M : Type 1} → statement M
-unfolding current
-number_spec =
-    tie.close
-    (tie.spec
-    (λ c. let within = small c.before in fits w64 (search casts depth 60 fits 9999) tt)
-    (λ c. let within = small c.before.before in fits w64 (search casts depth 60 fits 9999) tt)
-    (λ c.
-    let start = c.before.before in
-    let within = small start in
-    reads (search casts depth 60 fits 9999) tt (+ℤ_idl (neg_ℤ (pos start.args.self.value)) ∙ simp c.if1.true))
-    (λ c. let within = small c.before.before in reads (search casts depth 60 fits 9999) tt (simp c.if1.false)))
+number_spec = tie.close (tie.spec cast_value sub_result returns returns_2)

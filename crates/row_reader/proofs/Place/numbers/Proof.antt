@@ -11,8 +11,8 @@ use Rattle.row_reader.proofs.Place.numbers.Statement.{statement}
 use Rattle.row_reader.proofs.Place.numbers.Tie as tie
 
 made :
-    (h : Conic) (r n : ℤ) → SFits w64 h.b → SFits w64 h.c → SFits w64 h.d → SFits w64 h.e →
-    SFits w64 h.f → SFits w64 r → r ≡ n →
+    (h : Conic) (r n : ℤ) → SFits w64 h.b → SFits w64 h.c → SFits w64 h.d → SFits w64 h.e → SFits w64 h.f →
+    SFits w64 r → r ≡ n →
     ◌≡◌ {A = Conic}
     (record {
       a = to_z w64 (of_z w64 h.b);
@@ -26,8 +26,11 @@ made :
 unfolding pushed
 made h r n b c d e f g same = rw (to_z-of_z b, to_z-of_z c, to_z-of_z d, to_z-of_z e, to_z-of_z f, to_z-of_z g, same)
 
+number_requires : tie.Need-number-requires
+number_requires c κs = search rules
+
 returns : tie.Need-returns
 returns c = search (rules, made)
 
 pub numbers_spec : {M : Type 1} → statement M
-numbers_spec = tie.close (tie.spec (λ c κs. search rules) returns)
+numbers_spec = tie.close (tie.spec number_requires returns)

@@ -23,6 +23,12 @@ written_out :
 unfolding from_primed
 written_out h m = refl
 
+discriminant_requires : tie.Need-discriminant-requires
+discriminant_requires c κs = search rules
+
+k_requires : tie.Need-k-requires
+k_requires c κs = search rules
+
 returns : tie.Need-returns
 returns c =
     same_point
@@ -35,8 +41,8 @@ pub from_primed_spec : {M : Type 1} → statement M
 from_primed_spec =
     tie.close
     (tie.spec
-    (λ c κs. search rules)
-    (λ c κs. search rules)
+    discriminant_requires
+    k_requires
     (λ c. fits w64 (search (formSizes, sizes) depth 60 fits 9999) tt)
     (λ c. fits w64 (search (formSizes, sizes) depth 60 fits 9999) tt)
     (λ c. fits w64 (search (formSizes, sizes) depth 60 fits 9999) tt)

@@ -1,15 +1,17 @@
--- `solve::trial::has_square_discriminant` meets its contract: −D is a square exactly if it is at least 0 and its size a
--- square. Assumes nothing.
+-- `solve::trial::has_square_discriminant` meets its contract: −D is a square exactly if it is at least 0 and its size a square.
+-- Assumes nothing.
 use mathlib.Core.Path.{◌≡◌, refl, sym, ap, ◌∙◌}
-use mathlib.Core.Bool.{Bool}
+use mathlib.Core.Bool.{Bool, true, false, true≢false}
 use Prim.Native.Nat.{zero-le}
+use lib.Dec.{T}
 use lib.IntN.{ℤ, pos, negsuc, neg_ℤ, nat_abs, ◌-ℤ◌, +ℤ_idl}
-use lib.Signed.{le_z, non_neg}
+use lib.Signed.{le_z}
 use mir.Syntax.{w64}
 use mir.Val.{to_z, of_z}
 use borrow.Author.Rules.{rules}
 use borrow.Author.Tests.{le-leb}
 use Rattle.whole.proofs.Signed.{sizes, fits, reads}
+use Rattle.whole.proofs.SignedTests.{tests, Tested, tells}
 use Rattle.number.specs.Square.{is_square}
 use Rattle.conic.specs.Form.{D}
 use Rattle.conic.proofs.Bounds.{formSizes}
@@ -17,43 +19,55 @@ use Rattle.solve.specs.Solve.{is_square_number}
 use Rattle.solve.proofs.trial.has_square_discriminant.Statement.{statement}
 use Rattle.solve.proofs.trial.has_square_discriminant.Tie as tie
 
-at_least_zero : (n : ℤ) → le_z (pos 0) n ≡ non_neg n
-at_least_zero (pos n) = le-leb 0 n zero-le
-at_least_zero (negsuc n) = refl
+at_least_zero : (n : ℤ) → le_z (pos 0) n ≡ true → is_square (nat_abs n) ≡ is_square_number n
+unfolding is_square_number
+at_least_zero (pos n) e = refl
+at_least_zero (negsuc n) e = absurd (true≢false (sym e))
 
-module _ (c : tie.After-discriminant) where
-  abbrev minus : ℤ
-  minus = neg_ℤ (D c.before.args.h)
+below_zero : (n : ℤ) → le_z (pos 0) n ≡ false → le_z (pos 0) n ≡ is_square_number n
+unfolding is_square_number
+below_zero (pos n) e = absurd (true≢false (sym (le-leb 0 n zero-le) ∙ e))
+below_zero (negsuc n) e = e
 
-  -- as the machine has it
-  abbrev stored : ℤ
-  stored = to_z w64 (of_z w64 (pos 0 -ℤ to_z w64 (of_z w64 c.discriminant.result)))
+-- 0 − n is −n
+turned : (n : ℤ) {b : Bool} → le_z (pos 0) (pos 0 -ℤ n) ≡ b → le_z (pos 0) (neg_ℤ n) ≡ b
+turned n e = ap (le_z (pos 0)) (sym (+ℤ_idl (neg_ℤ n))) ∙ e
 
-  minus_is : stored ≡ minus
-  minus_is = reads (search (formSizes, sizes) depth 60 fits 9999) tt (+ℤ_idl minus)
+flag_is : {t b : Bool} (e : Tested t) → T e.room → e.value ≡ b → t ≡ b
+flag_is e r p = e.same r ∙ p
 
-  told : {b : Bool} → le_z (pos 0) stored ≡ b → non_neg minus ≡ b
-  told e = sym (at_least_zero minus) ∙ (rw minus_is at e)
+discriminant_requires : tie.Need-discriminant-requires
+discriminant_requires c κs = search rules
+
+sub_minus : tie.Need-overflow-sub-minus
+sub_minus c = fits w64 (search (formSizes, sizes) depth 60 fits 9999) tt
+
+minus_is : (c : tie.After-discriminant) → to_z w64 (of_z w64 (pos 0 -ℤ to_z w64 (of_z w64 c.discriminant.result))) ≡ neg_ℤ (D c.before.args.h)
+minus_is c = reads (search (formSizes, sizes) depth 60 fits 9999) tt refl ∙ +ℤ_idl (neg_ℤ (D c.before.args.h))
+
+magnitude_requires : tie.Need-magnitude-requires
+magnitude_requires c κs = search rules
+
+is_square_requires : tie.Need-is-square-requires
+is_square_requires c κs = search rules
 
 returns : tie.Need-returns
-unfolding is_square_number
 returns c =
     let magnitude = c.before in
     let then = magnitude.before in
-    rw (told then.before then.if1.true)
-    (c.is-square.ensures ∙ ap is_square (magnitude.magnitude.ensures ∙ ap nat_abs (minus_is then.before)))
+    let h = then.before.before.args.h in
+    let told : le_z (pos 0) (pos 0 -ℤ D h) ≡ true = tells (search (formSizes, tests) depth 60 fits 9999) tt then.if1.true in
+    c.is-square.ensures
+    ∙ ap is_square (magnitude.magnitude.ensures ∙ ap nat_abs (minus_is then.before))
+    ∙ at_least_zero (neg_ℤ (D h)) (turned (D h) told)
 
 returns_2 : tie.Need-returns-2
-unfolding is_square_number
-returns_2 c = rw (told c.before c.if1.false) c.if1.false
+returns_2 c =
+    let h = c.before.before.args.h in
+    let told : le_z (pos 0) (pos 0 -ℤ D h) ≡ false = tells (search (formSizes, tests) depth 60 fits 9999) tt c.if1.false in
+    flag_is (search (formSizes, tests) depth 60 fits 9999) tt told ∙ sym (turned (D h) told) ∙ below_zero (neg_ℤ (D h)) (turned (D h) told)
 
 pub has_square_discriminant_spec : {M : Type 1} → statement M
 has_square_discriminant_spec =
     tie.close
-    (tie.spec
-    (λ c κs. search rules)
-    (λ c. fits w64 (search (formSizes, sizes) depth 60 fits 9999) tt)
-    (λ c κs. search rules)
-    (λ c κs. search rules)
-    returns
-    returns_2)
+    (tie.spec discriminant_requires sub_minus magnitude_requires is_square_requires returns returns_2)

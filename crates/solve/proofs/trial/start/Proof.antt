@@ -1,66 +1,97 @@
 -- `solve::trial::start` meets its contract: the root of |D| is small, so each step fits. Assumes nothing.
 use mathlib.Core.Path.{◌≡◌, refl, sym, ap, ◌∙◌}
+use mathlib.Core.Bool.{true, false, cond}
 use Prim.Native.Nat.{◌≤◌}
-use lib.IntN.{pos, nat_abs, ◌-ℤ◌}
+use lib.IntN.{pos, nat_abs, ◌-ℤ◌, ◌*ℤ◌}
 use mir.Syntax.{w64}
 use mir.Facts.{to_z-of_z}
 use borrow.Author.Rules.{rules, sfits_of}
-use Rattle.basic.proofs.Tests.{when, unless}
-use Rattle.whole.specs.Tests.{is_zero}
 use Rattle.whole.proofs.Signed.{casts, fits, reads}
-use Rattle.whole.proofs.Passed.{passed}
 use Rattle.number.specs.Square.{root_of}
+use Rattle.point.specs.Paper.{is_zero}
+use Rattle.point.specs.declared.Point.{Point}
+use Rattle.point.proofs.Passed.{passed}
 use Rattle.point.proofs.Vector.{same_point}
 use Rattle.conic.specs.Form.{D}
-use Rattle.solve.specs.Sizes.{paper_limits}
+use Rattle.conic.specs.declared.conic.Conic.{Conic}
+use Rattle.solve.specs.Sizes.{limit_W'}
 use Rattle.solve.specs.Solve.{start_at_infinity}
-use Rattle.solve.proofs.Sizes.{paper_enough, root_within}
+use Rattle.solve.proofs.Infinity.{root_small}
 use Rattle.solve.proofs.trial.start.Statement.{statement}
 use Rattle.solve.proofs.trial.start.Tie as tie
+
+module _ (h : Conic) where
+  abbrev axis : Point
+  axis = record { x = pos 1; y = pos 0; z = pos 0 }
+
+  abbrev asymptote : Point
+  asymptote = record { x = pos (root_of (nat_abs (D h))) -ℤ h.b; y = pos 2 *ℤ h.a; z = pos 0 }
+
+  on_axis : is_zero h.a ≡ true → axis ≡ start_at_infinity h
+  unfolding start_at_infinity
+  on_axis e = ap (λ b. cond b axis asymptote) (sym e)
+
+  on_asymptote : is_zero h.a ≡ false → asymptote ≡ start_at_infinity h
+  unfolding start_at_infinity
+  on_asymptote e = ap (λ b. cond b axis asymptote) (sym e)
 
 tested : (c : tie.After-is-zero) → c.is_zero_lem.result ≡ is_zero c.before.before.before.args.h.a
 tested c = passed is_zero (search sfits_of) c.is_zero_lem.ensures
 
-module _ (c : tie.After-root) where
-  abbrev other : tie.Else1
-  other = c.before.before.before
+root_is : (c : tie.After-root) → c.root.result ≡ root_of (nat_abs (D c.before.before.before.before.before.before.before.args.h))
+root_is c =
+    c.root.ensures
+    ∙ ap root_of (c.before.magnitude.ensures ∙ ap nat_abs (to_z-of_z (search sfits_of) ∙ c.before.before.discriminant.ensures))
 
-  abbrev begin : tie.Start
-  begin = other.before.before.before.before
+root_at_most : (c : tie.After-root) → c.root.result ≤ limit_W'
+root_at_most c =
+    let start = c.before.before.before.before.before.before.before in
+    rw (root_is c) (root_small start.args.h start.requires)
 
-  root_is : c.root.result ≡ root_of (nat_abs (D begin.args.h))
-  root_is =
-      c.root.ensures
-      ∙ ap root_of c.before.magnitude.ensures
-      ∙ ap (λ n. root_of (nat_abs n)) (to_z-of_z (search sfits_of) ∙ c.before.before.discriminant.ensures)
-
-  root_at_most : c.root.result ≤ paper_limits.W'
-  root_at_most = rw root_is (root_within paper_enough begin.pre)
+is_zero_requires : tie.Need-is-zero-requires
+is_zero_requires c κs = search rules
 
 returns : tie.Need-returns
-unfolding start_at_infinity
-returns c = when _ _ (sym (tested c.before) ∙ c.if1.true)
+returns c = on_axis _ (sym (tested c.before) ∙ c.if1.true)
+
+discriminant_requires : tie.Need-discriminant-requires
+discriminant_requires c κs = search rules
+
+magnitude_requires : tie.Need-magnitude-requires
+magnitude_requires c κs = search rules
+
+root_requires : tie.Need-root-requires
+root_requires c κs = search rules
+
+cast_root : tie.Need-overflow-cast-root
+cast_root c = let small = root_at_most c in fits w64 (search casts depth 60 fits 9999) tt
+
+sub_t8 : tie.Need-overflow-sub-t8
+sub_t8 c = let small = root_at_most c in fits w64 (search casts depth 60 fits 9999) tt
+
+mul_t9 : tie.Need-overflow-mul-t9
+mul_t9 c = fits w64 (search casts depth 60 fits 9999) tt
 
 returns_2 : tie.Need-returns-2
-unfolding start_at_infinity
 returns_2 c =
     let small = root_at_most c in
+    let start = c.before.before.before.before.before.before.before in
     same_point
-    (reads (search casts depth 60 fits 9999) tt (ap (λ n. pos n -ℤ (begin c).args.h.b) (root_is c)))
+    (reads (search casts depth 60 fits 9999) tt (ap (λ n. pos n -ℤ start.args.h.b) (root_is c)))
     (reads (search casts depth 60 fits 9999) tt refl)
     refl
-    ∙ unless _ _ (sym (tested (other c).before) ∙ (other c).if1.false)
+    ∙ on_asymptote start.args.h (sym (tested c.before.before.before.before) ∙ c.before.before.before.if1.false)
 
 pub start_spec : {M : Type 1} → statement M
 start_spec =
     tie.close
     (tie.spec
-    (λ c κs. search rules)
+    is_zero_requires
     returns
-    (λ c κs. search rules)
-    (λ c κs. search rules)
-    (λ c κs. search rules)
-    (λ c. let small = root_at_most c in fits w64 (search casts depth 60 fits 9999) tt)
-    (λ c. let small = root_at_most c in fits w64 (search casts depth 60 fits 9999) tt)
-    (λ c. fits w64 (search casts depth 60 fits 9999) tt)
+    discriminant_requires
+    magnitude_requires
+    root_requires
+    cast_root
+    sub_t8
+    mul_t9
     returns_2)

@@ -1,36 +1,37 @@
--- `conic::conic::Conic::derivative_along` meets its contract: by the sizes of the derivatives each step fits. Assumes nothing.
-use mathlib.Core.Path.{◌≡◌, ap}
-use lib.IntN.{ℤ, ◌+ℤ◌, ◌*ℤ◌}
+-- `conic::conic::Conic::derivative_along` meets its contract: by the sizes of the numbers each step fits. Assumes nothing.
+use mathlib.Core.Path.{refl}
 use borrow.Author.Rules.{rules}
-use Rattle.whole.proofs.Signed.{sizes, reads}
-use Rattle.paper.specs.Limits.{coefficient_limit, base_limit}
-use Rattle.point.specs.Sizes.{PointWithin}
-use Rattle.point.specs.declared.Point.{Point}
-use Rattle.conic.specs.Form.{gradient, L}
-use Rattle.conic.specs.declared.conic.Conic.{Conic}
-use Rattle.conic.proofs.Bounds.{limit_derivative, gradient_within, at_start}
-use Rattle.conic.proofs.Products.{summed, room_for}
+use Rattle.whole.proofs.Signed.{sizes, reads, bounds}
+use Rattle.point.specs.Paper.{direction_limit}
+use Rattle.conic.specs.Form.{L}
+use Rattle.conic.proofs.Products.{products_fit}
+use Rattle.conic.proofs.Bounds.{limit_derivative, at_start, formSizes}
 use Rattle.conic.proofs.conic.Conic.derivative_along.Statement.{statement}
 use Rattle.conic.proofs.conic.Conic.derivative_along.Tie as tie
 
-along : (h : Conic) (s t : Point) {g : Point} → g ≡ gradient h s → t.x *ℤ g.x +ℤ t.y *ℤ g.y +ℤ t.z *ℤ g.z ≡ L h s t
-unfolding gradient L
-along h s t e = ap (λ g. t.x *ℤ g.x +ℤ t.y *ℤ g.y +ℤ t.z *ℤ g.z) e
+derivative_by_x_requires : tie.Need-derivative-by-x-requires
+derivative_by_x_requires c κs = search rules
 
--- the place where the gradient is known
-abbrev derived : tie.After-struct-told6 → tie.After-gradient
-derived c = c.before.before.before.before.before.before
+derivative_by_y_requires : tie.Need-derivative-by-y-requires
+derivative_by_y_requires c κs = search rules
 
-small : (c : tie.After-gradient) → PointWithin (limit_derivative coefficient_limit base_limit) c.gradient.result
-small c = rw c.gradient.ensures (gradient_within _ _ (at_start c.before.requires))
+derivative_by_z_requires : tie.Need-derivative-by-z-requires
+derivative_by_z_requires c κs = search rules
 
 dot_requires : tie.Need-dot-requires
-dot_requires c κs = let within = small (derived c) in room_for (search (summed, sizes) depth 60 fits 9999) tt
+dot_requires c κs =
+    products_fit direction_limit limit_derivative
+    (bounds (search sizes depth 60 fits 9999) tt)
+    (bounds (search sizes depth 60 fits 9999) tt)
+    (bounds (search sizes depth 60 fits 9999) tt)
+    (bounds (search (formSizes, sizes, at_start) depth 60 fits 9999) tt)
+    (bounds (search (formSizes, sizes, at_start) depth 60 fits 9999) tt)
+    (bounds (search (formSizes, sizes, at_start) depth 60 fits 9999) tt)
+    tt
 
 returns : tie.Need-returns
-returns c =
-    let within = small (derived c.before) in
-    reads (search sizes depth 60 fits 9999) tt (along _ _ _ (derived c.before).gradient.ensures)
+unfolding L
+returns c = reads (search (formSizes, sizes, at_start) depth 60 fits 9999) tt refl
 
 pub derivative_along_spec : {M : Type 1} → statement M
-derivative_along_spec = tie.close (tie.spec (λ c κs. search rules) dot_requires returns)
+derivative_along_spec = tie.close (tie.spec derivative_by_x_requires derivative_by_y_requires derivative_by_z_requires dot_requires returns)

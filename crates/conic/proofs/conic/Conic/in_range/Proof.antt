@@ -1,13 +1,43 @@
--- `conic::conic::Conic::in_range` meets its contract, test by test. Assumes nothing.
+-- `conic::conic::Conic::in_range` meets its contract. Assumes nothing.
+use mathlib.Core.Path.{◌≡◌, refl, ap, ◌∙◌}
+use mathlib.Core.Bool.{Bool, true, false, ◌&&◌}
 use borrow.Author.Rules.{rules}
-use Rattle.whole.proofs.Passed.{tested}
+use Rattle.point.specs.Paper.{within, coefficient_limit}
+use Rattle.point.proofs.Passed.{tested}
 use Rattle.conic.specs.Base.{in_range}
+use Rattle.conic.specs.declared.conic.Conic.{Conic}
 use Rattle.conic.proofs.conic.Conic.in_range.Statement.{statement}
 use Rattle.conic.proofs.conic.Conic.in_range.Tie as tie
 
-returns : tie.Need-returns
+regroup : (p d e f : Bool) → p && (d && e && f) ≡ p && d && e && f
+regroup true d e f = refl
+regroup false d e f = refl
+
+-- three coefficients and three
+halves :
+    (h : Conic) (p q : Bool) →
+    p ≡ within coefficient_limit h.a && within coefficient_limit h.b && within coefficient_limit h.c →
+    q ≡ within coefficient_limit h.d && within coefficient_limit h.e && within coefficient_limit h.f →
+    p && q ≡ in_range h
 unfolding in_range
-returns c = search tested depth 60 fits 9999
+halves h p q first last =
+    let test = within coefficient_limit in
+    ap (λ (t : Bool). p && t) last ∙ regroup p (test h.d) (test h.e) (test h.f)
+    ∙ ap (λ (t : Bool). t && test h.d && test h.e && test h.f) first
+
+all_within_requires : tie.Need-all-within-requires
+all_within_requires c κs = search rules
+
+all_within_requires_2 : tie.Need-all-within-requires-2
+all_within_requires_2 c κs = search rules
+
+returns : tie.Need-returns
+returns c = search (halves, tested) depth 60 fits 9999
 
 pub in_range_spec : {M : Type 1} → statement M
-in_range_spec = tie.close (tie.spec (λ c κs. search rules) (λ c κs. search rules) returns)
+in_range_spec =
+    tie.close
+    (tie.spec
+    all_within_requires
+    all_within_requires_2
+    returns)

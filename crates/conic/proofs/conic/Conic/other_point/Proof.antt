@@ -1,27 +1,31 @@
--- `conic::conic::Conic::other_point` meets its contract: what is drawn fits, so that it has the machine's normal form. Assumes nothing.
-use mathlib.Core.Path.{◌≡◌, sym, ap, ◌∙◌, subst}
+-- `conic::conic::Conic::other_point` meets its contract: what is drawn fits, so that the machine's normal form is the normal form.
+-- Assumes nothing.
+use mathlib.Core.Path.{ap, ◌∙◌}
+use mir.Syntax.{w64}
+use mir.Val.{SFits}
 use borrow.Author.Rules.{rules, sfits_of}
-use Rattle.point.specs.Normal.{largest, normal}
-use Rattle.point.specs.Sizes.{PointWithin}
-use Rattle.point.proofs.Passed.{stored, stored_is}
-use Rattle.conic.specs.Form.{drawn}
+use Rattle.point.specs.Normal.{normal_within}
+use Rattle.point.proofs.Limits.{normal_passed, normal_within_is_normal}
 use Rattle.conic.proofs.Bounds.{drawn_fits}
 use Rattle.conic.proofs.conic.Conic.other_point.Statement.{statement}
 use Rattle.conic.proofs.conic.Conic.other_point.Tie as tie
 
-drawn_is : (c : tie.After-drawn) →
-    stored c.drawn.result ≡ drawn c.before.args.self c.before.args.s c.before.args.t
-drawn_is c = stored_is _ (search sfits_of) (search sfits_of) (search sfits_of) ∙ c.drawn.ensures
+drawn_requires : tie.Need-drawn-requires
+drawn_requires c κs = search rules
 
 normal_requires : tie.Need-normal-requires
-normal_requires c κs =
-    let after = c.before.before.before in
-    let start = after.before in
-    subst (PointWithin largest) (sym (drawn_is after))
-    (drawn_fits start.args.self start.args.s start.args.t start.requires)
+normal_requires c κs = search rules
+
+z_fits : (c : tie.After-drawn) → SFits w64 c.drawn.result.z
+z_fits c = search sfits_of
 
 returns : tie.Need-returns
-returns c = c.normal.ensures ∙ ap normal (drawn_is c.before.before.before.before)
+returns c =
+    let after = c.before.before.before.before in
+    let start = after.before in
+    normal_passed after.drawn.result (search sfits_of) (search sfits_of) (z_fits after) c.normal.ensures
+    ∙ ap normal_within after.drawn.ensures
+    ∙ normal_within_is_normal (drawn_fits start.args.self start.args.s start.args.t start.requires)
 
 pub other_point_spec : {M : Type 1} → statement M
-other_point_spec = tie.close (tie.spec (λ c κs. search rules) normal_requires returns)
+other_point_spec = tie.close (tie.spec drawn_requires normal_requires returns)

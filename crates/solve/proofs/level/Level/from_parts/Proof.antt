@@ -1,13 +1,14 @@
--- `solve::level::Level::from_parts` meets its contract: the common factor divides d, which is not 0, so it is not 0 and
--- at most d in size, and a quotient is at most its dividend. Assumes nothing.
-use mathlib.Core.Path.{◌≡◌, refl, sym, subst}
-use Prim.Native.Nat.{◌≤◌, ◌<◌, ◌∣◌}
-use native.Mathlib.Nat.{le_trans, le_of_dvd, pos_of_dvd_of_pos}
-use lib.IntN.{nat_abs}
+-- `solve::level::Level::from_parts` meets its contract: the common factor divides d, which is not 0, so it is not 0 and at most d in
+-- size, and a quotient is at most its dividend. Assumes nothing.
+use mathlib.Core.Path.{◌≡◌, refl, ap, ◌∙◌}
+use Prim.Native.Nat.{ℕ, ◌≤◌, ◌<◌}
+use native.Mathlib.Nat.{le_trans, le_of_dvd, pos_of_ne-zero, pos_of_dvd_of_pos}
+use lib.IntN.{ℤ, pos, nat_abs}
+use lib.Signed.{quot_z}
 use mir.Syntax.{w64}
 use borrow.Author.Rules.{rules}
 use Rattle.whole.proofs.Signed.{casts, fits, reads}
-use Rattle.whole.proofs.Size.{nat_abs_positive}
+use Rattle.whole.proofs.Size.{nat_abs_zero}
 use Rattle.number.specs.Gcd.{gcd_of}
 use Rattle.number.proofs.Gcd.{gcd_divides_left}
 use Rattle.point.specs.Normal.{largest}
@@ -20,6 +21,20 @@ use Rattle.solve.proofs.level.Level.from_parts.Tie as tie
 same_level : {v w : Level} → v.p ≡ w.p → v.g ≡ w.g → v.q ≡ w.q → v.s ≡ w.s → v.t ≡ w.t → v ≡ w
 same_level a b c d e = λ i. record { p = a i; g = b i; q = c i; s = d i; t = e i }
 
+written_out : (d e : ℤ) (s t : ℕ) {g : ℕ} → g ≡ gcd_of (nat_abs d) (nat_abs e) →
+    record { p = quot_z d (pos g); g = pos g; q = quot_z e (pos g); s = pos s; t = pos t } ≡ level_from d s e t
+unfolding level_from
+written_out d e s t e_is = ap (λ (g : ℕ). record { p = quot_z d (pos g); g = pos g; q = quot_z e (pos g); s = pos s; t = pos t }) e_is
+
+magnitude_requires : tie.Need-magnitude-requires
+magnitude_requires c κs = search rules
+
+magnitude_requires_2 : tie.Need-magnitude-requires-2
+magnitude_requires_2 c κs = search rules
+
+gcd_requires : tie.Need-gcd-requires
+gcd_requires c κs = search rules
+
 module _ (c : tie.After-gcd) where
   abbrev start : tie.Start
   start = c.before.before.before
@@ -27,33 +42,33 @@ module _ (c : tie.After-gcd) where
   g_is : c.gcd.result ≡ gcd_of (nat_abs start.args.d) (nat_abs start.args.e)
   g_is = search factors depth 60 fits 9999
 
-  g_divides : c.gcd.result ∣ nat_abs start.args.d
-  g_divides = subst (λ g. g ∣ nat_abs start.args.d) (sym g_is) (gcd_divides_left _ _)
+  d_positive : 0 < nat_abs start.args.d
+  d_positive = pos_of_ne-zero (λ e. start.pre.d_not_zero (nat_abs_zero start.args.d e))
 
   g_positive : 0 < c.gcd.result
-  g_positive = pos_of_dvd_of_pos g_divides (nat_abs_positive start.pre.d_not_zero)
+  g_positive = rw g_is (pos_of_dvd_of_pos (gcd_divides_left (nat_abs start.args.d) (nat_abs start.args.e)) d_positive)
 
   g_small : c.gcd.result ≤ largest
-  g_small = le_trans (le_of_dvd (nat_abs_positive start.pre.d_not_zero) g_divides) start.pre.d_within
+  g_small = rw g_is (le_trans (le_of_dvd d_positive (gcd_divides_left (nat_abs start.args.d) (nat_abs start.args.e))) start.pre.d_within)
 
 returns : tie.Need-returns
-unfolding level_from
 returns c =
     let small = g_small c in
     same_level
-    (reads (search casts depth 60 fits 9999) tt (rw (g_is c)))
-    (reads (search casts depth 60 fits 9999) tt (rw (g_is c)))
-    (reads (search casts depth 60 fits 9999) tt (rw (g_is c)))
     (reads (search casts depth 60 fits 9999) tt refl)
     (reads (search casts depth 60 fits 9999) tt refl)
+    (reads (search casts depth 60 fits 9999) tt refl)
+    (reads (search casts depth 60 fits 9999) tt refl)
+    (reads (search casts depth 60 fits 9999) tt refl)
+    ∙ written_out _ _ _ _ (g_is c)
 
 pub from_parts_spec : {M : Type 1} → statement M
 from_parts_spec =
     tie.close
     (tie.spec
-    (λ c κs. search rules)
-    (λ c κs. search rules)
-    (λ c κs. search rules)
+    magnitude_requires
+    magnitude_requires_2
+    gcd_requires
     (λ c. let small = g_small c in fits w64 (search casts depth 60 fits 9999) tt)
     (λ c. let small = g_small c in (g_positive c, fits w64 (search casts depth 60 fits 9999) tt))
     (λ c. let small = g_small c in (g_positive c, fits w64 (search casts depth 60 fits 9999) tt))

@@ -1,85 +1,114 @@
--- `solve::level::Level::of` meets its contract: the parts of a number are at most the number in size, and D is not 0.
--- Assumes nothing.
-use mathlib.Core.Path.{◌≡◌, refl, ap, ◌∙◌}
-use native.Mathlib.Nat.{le_trans}
+-- `solve::level::Level::of` meets its contract: the parts of a number are at most the number in size, and D is not 0. Assumes nothing.
+use mathlib.Core.Path.{◌≡◌, refl, sym, ap, ap₂, ◌∙◌}
+use Prim.Native.Nat.{ℕ, zero, suc, ◌*◌, ◌≤◌, zero-le}
+use native.Mathlib.Nat.{le_trans, le-mul_of_pos_right, zero-lt-suc}
 use lib.Dec.{lit≤}
-use lib.IntN.{ℤ, ◌*ℤ◌}
+use lib.IntN.{ℤ, pos, nat_abs, ◌*ℤ◌}
 use mir.Syntax.{w64}
 use mir.Val.{to_z, of_z}
 use mir.Facts.{to_z-of_z}
 use borrow.Author.Rules.{rules, sfits_of}
-use Rattle.whole.proofs.Signed.{sizes, fits, reads, bounds}
+use Rattle.whole.proofs.Signed.{sizes, fits, reads}
+use Rattle.whole.proofs.Size.{quotient_size}
+use Rattle.number.specs.Split.{split_of}
+use Rattle.number.specs.Squarefree.{free_part, square_part}
+use Rattle.number.specs.declared.splitting.Parts.{Parts}
 use Rattle.number.proofs.Squarefree.{squarefree_not_zero}
-use Rattle.number.proofs.SquarefreeSplit.{split_is, square_part_at_most, free_part_at_most}
+use Rattle.number.proofs.SquarefreeSplit.{split_is, square_part_squared_at_most}
+use Rattle.point.specs.Normal.{largest}
 use Rattle.conic.specs.Form.{D, Δ}
 use Rattle.conic.specs.declared.conic.Conic.{Conic}
 use Rattle.conic.proofs.Bounds.{formSizes}
 use Rattle.conic.proofs.Sizes.{D-size, aΔ_size}
-use Rattle.solve.specs.Level.{signed_split, level_from, level_of}
+use Rattle.solve.specs.Level.{level_from, level_of}
 use Rattle.solve.specs.Sizes.{CanLevel, PartsWithin}
-use Rattle.solve.specs.declared.level.Level.{Level}
-use Rattle.solve.specs.declared.level.Split.{Split}
 use Rattle.solve.proofs.level.Level.of.Statement.{statement}
 use Rattle.solve.proofs.level.Level.of.Tie as tie
 
--- m and n are the free parts as they are handed over
-module _ (h : Conic) {m n : ℤ} {d e : Split} (m_is : m ≡ d.free) (n_is : n ≡ e.free)
-    (d_is : d ≡ signed_split (D h)) (e_is : e ≡ signed_split (h.a *ℤ Δ h)) where
-  parts_within : CanLevel h → PartsWithin m d.square n e.square
+free_at_most : (n : ℤ) → nat_abs (free_part n) ≤ nat_abs n
+unfolding free_part
+free_at_most n = quotient_size n (pos (square_part n * square_part n))
+
+square_at_most : (n : ℤ) → square_part n ≤ nat_abs n
+square_at_most n = le_trans (at_most_square (square_part n)) (square_part_squared_at_most n)
+  where
+    at_most_square : (s : ℕ) → s ≤ s * s
+    at_most_square zero = zero-le
+    at_most_square (suc s) = le-mul_of_pos_right (suc s) (zero-lt-suc s)
+
+module _ (h : Conic) {d e : Parts} (d_is : d ≡ split_of (D h)) (e_is : e ≡ split_of (h.a *ℤ Δ h)) where
+  parts_within : CanLevel h → PartsWithin d.free d.square e.free e.square
   parts_within i =
-      let D-small = le_trans (D-size h i.conic) (lit≤ tt) in
-      let aΔ_small = le_trans (aΔ_size h i.conic) (lit≤ tt) in
-      rw (m_is, n_is, d_is, e_is)
-      (record {
-        d_not_zero = squarefree_not_zero (split_is (D h) i.D-not-zero).squarefree;
-        d_within = le_trans (free_part_at_most (D h)) D-small;
-        s_within = le_trans (square_part_at_most (D h)) D-small;
-        e_within = le_trans (free_part_at_most (h.a *ℤ Δ h)) aΔ_small;
-        t_within = le_trans (square_part_at_most (h.a *ℤ Δ h)) aΔ_small;
-      })
+      record {
+        d_not_zero = λ z. squarefree_not_zero (split_is (D h) i.D-not-zero).squarefree (sym (ap (λ p. p.free) d_is) ∙ z);
+        d_within = rw d_is (le_trans (free_at_most (D h)) D-small);
+        s_within = rw d_is (le_trans (square_at_most (D h)) D-small);
+        e_within = rw e_is (le_trans (free_at_most (h.a *ℤ Δ h)) aΔ_small);
+        t_within = rw e_is (le_trans (square_at_most (h.a *ℤ Δ h)) aΔ_small);
+      }
+    where
+      D-small : nat_abs (D h) ≤ largest
+      D-small = le_trans (D-size h i.conic) (lit≤ tt)
 
-  level_is : {r : Level} → r ≡ level_from m d.square n e.square → r ≡ level_of h
+      aΔ_small : nat_abs (h.a *ℤ Δ h) ≤ largest
+      aΔ_small = le_trans (aΔ_size h i.conic) (lit≤ tt)
+
+  level_is : level_from d.free d.square e.free e.square ≡ level_of h
   unfolding level_of
-  level_is r-is = rw (r-is, m_is, n_is, d_is, e_is)
+  level_is = rw (d_is, e_is)
 
+discriminant_requires : tie.Need-discriminant-requires
+discriminant_requires c κs = search rules
+
+split_requires : tie.Need-split-requires
+split_requires c κs = search rules
+
+determinant_requires : tie.Need-determinant-requires
+determinant_requires c κs = search rules
+
+mul_split : tie.Need-overflow-mul-split
+mul_split c = fits w64 (search (formSizes, sizes) depth 60 fits 9999) tt
+
+split_requires_2 : tie.Need-split-requires-2
+split_requires_2 c κs = search rules
+
+-- the two splits
+module _ (c : tie.After-split2) where
+  abbrev h : Conic
+  h = c.before.before.before.before.before.before.args.h
+
+  d_is : c.before.before.before.before.split.result ≡ split_of (D h)
+  d_is = c.before.before.before.before.split.ensures ∙ ap split_of (reads (search (formSizes, sizes) depth 60 fits 9999) tt refl)
+
+  e_is : c.split2.result ≡ split_of (h.a *ℤ Δ h)
+  e_is = c.split2.ensures ∙ ap split_of (reads (search (formSizes, sizes) depth 60 fits 9999) tt refl)
+
+-- as they are handed over
 module _ (c : tie.After-struct-told3) where
-  abbrev second : tie.After-of2
-  second = c.before.before
+  abbrev d : Parts
+  d = c.before.before.before.before.before.before.split.result
 
-  abbrev first : tie.After-of
-  first = second.before.before.before.before
+  abbrev e : Parts
+  e = c.before.before.split2.result
 
-  abbrev start : tie.Start
-  start = first.before.before
+  d_kept : to_z w64 (of_z w64 d.free) ≡ d.free
+  d_kept = to_z-of_z (search sfits_of)
 
-  m_is : to_z w64 (of_z w64 first.of.result.free) ≡ first.of.result.free
-  m_is = to_z-of_z (search sfits_of)
-
-  n_is : to_z w64 (of_z w64 second.of2.result.free) ≡ second.of2.result.free
-  n_is = to_z-of_z (search sfits_of)
-
-  d_is : first.of.result ≡ signed_split (D start.args.h)
-  d_is = first.of.ensures ∙ ap signed_split (reads (search (formSizes, sizes) depth 60 fits 9999) tt refl)
-
-  e_is : second.of2.result ≡ signed_split (start.args.h.a *ℤ Δ start.args.h)
-  e_is = second.of2.ensures ∙ ap signed_split (reads (search (formSizes, sizes) depth 60 fits 9999) tt refl)
+  e_kept : to_z w64 (of_z w64 e.free) ≡ e.free
+  e_kept = to_z-of_z (search sfits_of)
 
 from_parts_requires : tie.Need-from-parts-requires
-from_parts_requires c κs = parts_within (start c).args.h (m_is c) (n_is c) (d_is c) (e_is c) (start c).requires
+from_parts_requires c κs =
+    let both = c.before.before in
+    rw (d_kept c, e_kept c) (parts_within (h both) (d_is both) (e_is both) both.before.before.before.before.before.before.requires)
 
 returns : tie.Need-returns
 returns c =
     let told = c.before in
-    level_is (start told).args.h (m_is told) (n_is told) (d_is told) (e_is told) c.from_parts.ensures
+    let both = told.before.before in
+    c.from_parts.ensures
+    ∙ ap₂ (λ (m n : ℤ). level_from m (d told).square n (e told).square) (d_kept told) (e_kept told)
+    ∙ level_is (h both) (d_is both) (e_is both)
 
 pub of_spec : {M : Type 1} → statement M
-of_spec =
-    tie.close
-    (tie.spec
-    (λ c κs. search rules)
-    (λ c κs. bounds (search (formSizes, sizes) depth 60 fits 9999) tt)
-    (λ c κs. search rules)
-    (λ c. fits w64 (search (formSizes, sizes) depth 60 fits 9999) tt)
-    (λ c κs. bounds (search (formSizes, sizes) depth 60 fits 9999) tt)
-    from_parts_requires
-    returns)
+of_spec = tie.close (tie.spec discriminant_requires split_requires determinant_requires mul_split split_requires_2 from_parts_requires returns)

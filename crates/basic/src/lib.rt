@@ -1,1 +1,0 @@
-// Laws of tests and of lists, which everything above cites; no code.

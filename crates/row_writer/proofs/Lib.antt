@@ -1,4 +1,0 @@
-pub mod Buffer
-pub mod Decimal
-pub mod RowTells
-pub mod Promise
