@@ -1,4 +1,6 @@
 // The curve book: a stored set of conics with their answers.
+#![tactic(auto)]
+
 use conic::conic::Conic;
 use point::Point;
 use point::paper::Refusal;
@@ -8,14 +10,14 @@ pub mod bytes;
 pub mod layout;
 
 // The length of the book that was written.
-#[derive(Drop)]
+#[derive(Clone, Copy)]
 pub enum Written {
     Length(usize),
     Refused(Refusal),
 }
 
 // A stored answer; only a point has coordinates.
-#[derive(Drop)]
+#[derive(Clone, Copy)]
 pub enum Stored {
     Point(Point),
     None(Reason),
@@ -23,7 +25,7 @@ pub enum Stored {
 }
 
 // A conic of a book with its stored answer.
-#[derive(Drop)]
+#[derive(Clone, Copy)]
 pub enum Entry {
     Conic(Conic, Stored),
     Refused(Refusal),

@@ -1,4 +1,6 @@
 // The reader of a book: the whole book is judged before an entry is given.
+#![tactic(auto)]
+
 ghost use Rattle.std.specs.Prelude.{◌≡◌, true, ◌&&◌, ◌+◌, ◌*◌, ◌≤◌, ◌<◌, eqb, length};
 ghost use Rattle.point.specs.Paper.{is_zero};
 ghost use Rattle.conic.specs.Form.{Δ};

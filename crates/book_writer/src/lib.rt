@@ -1,4 +1,6 @@
 // The writer of a book: the list is judged first, and no byte is written before the book is known to fit.
+#![tactic(auto)]
+
 ghost use Rattle.std.specs.Prelude.{◌∷◌, ◌++◌, ◌≡◌, ◌+◌, ◌≤◌, ltb, length};
 ghost use Rattle.std.proofs.lemmas.List.Edits.{sets};
 ghost use Rattle.point.specs.Paper.{point, point_limit};

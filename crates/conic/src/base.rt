@@ -7,7 +7,7 @@ use point::paper::Refusal;
 use point::{Point, size};
 
 // Whether a conic and a base are what both direction entries ask for.
-#[derive(Drop)]
+#[derive(Clone, Copy)]
 pub enum Judged {
     Legal,
     Refused(Refusal),

@@ -8,7 +8,7 @@ ghost use Rattle.conic.specs.Sizes.{ProductsFit, InLimit, ConicAt, ConicAlong};
 use point::paper::COEFFICIENT_LIMIT;
 use point::{Point, size};
 
-#[derive(Drop)]
+#[derive(Clone, Copy)]
 pub struct Conic {
     pub a: i64,
     pub b: i64,

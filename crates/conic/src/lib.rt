@@ -1,3 +1,5 @@
 // Conics with whole coefficients, and bases on them.
+#![tactic(auto)]
+
 pub mod base;
 pub mod conic;

@@ -1,5 +1,7 @@
 // The library for callers in C and Rust: six functions in flat form, each for every input. An answer's code is 0 or more, a refusal's is
 // minus the paper's number; exactly the places named for a code are written.
+#![tactic(auto)]
+
 ghost use Rattle.conic_c.specs.Promises.{ConicSolve, ConicPoint, ConicDirection, ConicRow, ConicBookWrite, ConicBookRead};
 
 use book::Entry;

@@ -1,5 +1,7 @@
 // Prints answers of solve and of the two direction steps, to be checked against their definitions: `P x y z` is a point, `N sign` and
 // `N prime n` none, `D u v` a direction and `R n` a refusal.
+#![tactic(auto)]
+
 mod conics;
 mod print;
 mod steps;

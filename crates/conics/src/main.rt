@@ -1,4 +1,6 @@
 // Rows of digits on standard input, one row of text for each on standard output.
+#![tactic(auto)]
+
 ghost use Rattle.std.specs.Prelude.{◌≤◌, length};
 ghost use Rattle.row.specs.Row.{buffer_limit};
 
@@ -7,7 +9,7 @@ use row::Written;
 use rows::Cutter;
 
 // The row in the making, and whether there is more to read.
-#[derive(Drop)]
+#[derive(Clone, Copy)]
 struct Reading {
     cutter: Cutter,
     goes_on: bool,

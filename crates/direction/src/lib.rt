@@ -1,4 +1,6 @@
 // Directions from a base point: the point that a direction leads to, and the direction to a point.
+#![tactic(auto)]
+
 ghost use Rattle.std.specs.Prelude.{◌≡◌, cond};
 ghost use Rattle.point.specs.Normal.{at_infinity};
 ghost use Rattle.point.specs.Paper.{point_limit};
@@ -12,14 +14,14 @@ use point::paper::Refusal;
 use point::{Direction, Point, size};
 
 // The point that a base's direction leads to.
-#[derive(Drop)]
+#[derive(Clone, Copy)]
 pub enum Reached {
     Point(Point),
     Refused(Refusal),
 }
 
 // The direction from a base to a target.
-#[derive(Drop)]
+#[derive(Clone, Copy)]
 pub enum Directed {
     Direction(Direction),
     Refused(Refusal),

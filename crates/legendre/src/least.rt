@@ -2,7 +2,7 @@
 ghost use Rattle.std.specs.Prelude.{◌≡◌};
 ghost use Rattle.legendre.specs.Search.{smaller_of};
 
-#[derive(Drop)]
+#[derive(Clone, Copy)]
 pub enum Least {
     At(u64),
     Nothing,

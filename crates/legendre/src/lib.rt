@@ -1,4 +1,6 @@
 // Legendre's equation on machine numbers.
+#![tactic(auto)]
+
 pub mod decide;
 mod failing;
 mod least;

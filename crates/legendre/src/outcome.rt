@@ -1,5 +1,5 @@
 // A solution of the levelled equation.
-#[derive(Drop)]
+#[derive(Clone, Copy)]
 pub struct Triple {
     pub x: u64,
     pub y: u64,
@@ -7,7 +7,7 @@ pub struct Triple {
 }
 
 // What becomes of a levelled equation: none by sign, none by a prime, or its chosen solution.
-#[derive(Drop)]
+#[derive(Clone, Copy)]
 pub enum Outcome {
     Sign,
     Prime(u64),

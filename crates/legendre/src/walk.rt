@@ -11,7 +11,7 @@ use number::roots::{is_square, root};
 use whole::magnitude;
 
 // The X and Y of a row's first solution.
-#[derive(Drop)]
+#[derive(Clone, Copy)]
 pub enum Found {
     At(u64, u64),
     Nothing,

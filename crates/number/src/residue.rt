@@ -5,7 +5,7 @@ ghost use Rattle.number.specs.Root.{least_root, Factors, IsRemainder, Modulus, P
 
 use whole::magnitude;
 
-#[derive(Drop)]
+#[derive(Clone, Copy)]
 pub enum Root {
     Least(u64),
     Nothing,

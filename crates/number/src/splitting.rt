@@ -6,7 +6,7 @@ ghost use Rattle.number.specs.Split.{split_of};
 use crate::roots;
 
 // A number as free · square², with free squarefree and of the number's sign; both are 0 for 0.
-#[derive(Drop)]
+#[derive(Clone, Copy)]
 pub struct Parts {
     pub free: i64,
     pub square: u64,

@@ -1,4 +1,6 @@
 // Prints small values of number theory's functions, to be checked by eye against their definitions.
+#![tactic(auto)]
+
 ghost use Rattle.number.specs.Root.{PrimeModulus};
 
 use libc::STDOUT_FILENO;

@@ -1,4 +1,6 @@
 // Points and directions, and their normal forms.
+#![tactic(auto)]
+
 ghost use Rattle.std.specs.Prelude.{◌≡◌};
 ghost use Rattle.point.specs.Normal.{common_factor, leading, signed, over, largest, normal_within, normal_direction_within};
 ghost use Rattle.point.specs.Paper.{within, point_in_limit, direction_in_limit};
@@ -12,7 +14,7 @@ pub mod paper;
 pub mod size;
 
 // A point: three whole numbers, up to a common factor.
-#[derive(Drop)]
+#[derive(Clone, Copy)]
 pub struct Point {
     pub x: i64,
     pub y: i64,
@@ -20,7 +22,7 @@ pub struct Point {
 }
 
 // A direction: two whole numbers, up to a common factor.
-#[derive(Drop)]
+#[derive(Clone, Copy)]
 pub struct Direction {
     pub u: i64,
     pub v: i64,

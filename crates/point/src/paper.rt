@@ -12,7 +12,7 @@ pub const POINT_LIMIT: u32 = 160_000_000;
 pub const DIRECTION_LIMIT: u32 = 10_000;
 
 // The refusals, in the order of the paper's table.
-#[derive(Drop)]
+#[derive(Clone, Copy)]
 pub enum Refusal {
     Range,
     Degenerate,

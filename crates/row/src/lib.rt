@@ -1,4 +1,6 @@
 // A row of digits in, a row of text out.
+#![tactic(auto)]
+
 ghost use Rattle.row.specs.Row.{RowPromise};
 
 use point::paper::Refusal;
@@ -10,7 +12,7 @@ mod writer;
 pub const BUFFER_LIMIT: usize = 40;
 
 // The length of the row that was written, with its line feed.
-#[derive(Drop)]
+#[derive(Clone, Copy)]
 pub enum Written {
     Length(usize),
     Refused(Refusal),

@@ -1,4 +1,6 @@
 // Reading a text row byte by byte: a constant number of steps for each.
+#![tactic(auto)]
+
 ghost use Rattle.std.specs.Prelude.{◌≡◌, T};
 ghost use Rattle.row_reader.specs.Reading.{read_row, is_digit};
 ghost use Rattle.row_reader.specs.Steps.{Legal, LegalReader, current, pushed, after_space, after_minus, after_digit};
@@ -13,7 +15,7 @@ const DIGIT_LIMIT: u64 = 6;
 const BEFORE_LAST: u64 = 5;
 
 // The numbers that a row has up to some byte, and the one that is being read.
-#[derive(Drop)]
+#[derive(Clone, Copy)]
 pub struct Place {
     // The last six that are whole, the newest in f.
     pub numbers: Conic,
@@ -25,14 +27,14 @@ pub struct Place {
 }
 
 // A row that is broken somewhere up to a byte, or what it has so far.
-#[derive(Drop)]
+#[derive(Clone, Copy)]
 pub enum Reader {
     Broken,
     Reading(Place),
 }
 
 // What a whole row holds.
-#[derive(Drop)]
+#[derive(Clone, Copy)]
 pub enum Content {
     Broken,
     Conic(Conic),

@@ -1,4 +1,6 @@
 // Input of any length, cut into rows at line feeds and answered row by row.
+#![tactic(auto)]
+
 ghost use Rattle.std.specs.Prelude.{◌≡◌, min};
 ghost use Rattle.row.specs.Row.{RowPromise};
 ghost use Rattle.rows.specs.Cutter.{holding, new_cutter, keep, emptied, held_text, FeedPromise, FinishPromise};
@@ -12,14 +14,14 @@ const HOLDING: usize = 48;
 const LINE_FEED: u8 = b'\n';
 
 // A row in the making: its first bytes, and how many of them there are.
-#[derive(Drop)]
+#[derive(Clone, Copy)]
 pub struct Cutter {
     pub held: [u8; 48],
     pub length: usize,
 }
 
 // What feeding a piece came to: the cutter after it, how much of the piece was taken, and how much was written.
-#[derive(Drop)]
+#[derive(Clone, Copy)]
 pub struct Fed {
     pub cutter: Cutter,
     pub taken: usize,

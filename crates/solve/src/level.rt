@@ -9,7 +9,7 @@ use number::euclid::gcd;
 use number::splitting::split;
 use point::Point;
 
-#[derive(Drop)]
+#[derive(Clone, Copy)]
 pub struct Level {
     pub p: i64,
     pub g: i64,

@@ -1,4 +1,6 @@
 // Solving a conic: a point exactly if there is one, or none with its reason.
+#![tactic(auto)]
+
 ghost use Rattle.std.specs.Prelude.{◌≡◌};
 ghost use Rattle.solve.specs.Demand2.{NonDegenerate, SquareDiscriminant};
 ghost use Rattle.solve.specs.Answer.{answered};
@@ -15,20 +17,20 @@ mod level;
 mod trial;
 
 // Why a conic has no point.
-#[derive(Drop)]
+#[derive(Clone, Copy)]
 pub enum Reason {
     Sign,
     Prime(u64),
 }
 
 // A point, or none with its reason; a none has no coordinates.
-#[derive(Drop)]
+#[derive(Clone, Copy)]
 pub enum Answer {
     Point(Point),
     None(Reason),
 }
 
-#[derive(Drop)]
+#[derive(Clone, Copy)]
 pub enum Solved {
     Answer(Answer),
     Refused(Refusal),

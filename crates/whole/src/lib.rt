@@ -1,3 +1,5 @@
+#![tactic(auto)]
+
 ghost use Rattle.std.specs.Prelude.{◌≡◌, nat_abs};
 
 // The size of `x`, for every `x`: three steps. The least number has no negation, so a negative one is turned over as

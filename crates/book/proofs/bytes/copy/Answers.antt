@@ -1,0 +1,34 @@
+-- `book::bytes::copy` meets its contract. The loop's invariant: the first i bytes are copied. Assumes nothing.
+use mathlib.Core.Path.{◌≡◌, refl, sym, ap, ◌∙◌}
+use Prim.Native.Nat.{ℕ, ◌+◌, ◌-◌, ◌≤◌, ◌<◌, zero-le}
+use native.Mathlib.Numerals.{add-one}
+use native.Mathlib.Omega.{arith}
+use lib.ListN.{length, get_or, set, drop, length-drop, length-set}
+use lib.Seq.{get_or-drop, paste, paste-zero, paste-suc}
+use mathlib.Core.List.{List}
+use Rattle.book.proofs.bytes.copy.Goals as goal
+
+pub loop-i-preserved : goal.loop-i-preserved
+loop-i-preserved c =
+    let to = c.args.to.now in
+    let at = c.args.at in
+    let from = c.args.from.now in
+    let start = c.args.start in
+    let i = c.loop-i.i in
+    let left : i < length (drop start from) = simp length-drop (omega arith) in (
+      omega arith,
+      ap (λ (l : List ℕ). set l (at + i) (get_or from (start + i) 0)) c.loop-i.invariant.1
+          ∙ ap (set (paste to at (drop start from) i) (at + i)) (sym (get_or-drop start from i 0))
+          ∙ paste-suc to at (drop start from) i 0 (omega arith) left
+          ∙ ap (paste to at (drop start from)) (sym (add-one i)),
+      simp length-set (omega arith),
+    )
+
+pub returns : goal.returns
+returns c =
+    let count : c.loop-i.i ≡ c.args.count = omega arith in
+    c.loop-i.invariant.1
+    ∙ ap (paste c.args.to.now c.args.at (drop c.args.start c.args.from.now)) count
+
+pub loop-i-init : goal.loop-i-init
+loop-i-init c = (zero-le, paste-zero c.args.to.now c.args.at (drop c.args.start c.args.from.now), refl)

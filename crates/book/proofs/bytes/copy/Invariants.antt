@@ -1,0 +1,15 @@
+-- `book::bytes::copy` meets its contract. The loop's invariant: the first i bytes are copied. Assumes nothing.
+use mathlib.Core.Path.{◌≡◌, refl, sym, ap, ◌∙◌}
+use Prim.Native.Nat.{ℕ, ◌+◌, ◌-◌, ◌≤◌, ◌<◌, zero-le}
+use native.Mathlib.Numerals.{add-one}
+use native.Mathlib.Omega.{arith}
+use lib.ListN.{length, get_or, set, drop, length-drop, length-set}
+use lib.Seq.{get_or-drop, paste, paste-zero, paste-suc}
+use mathlib.Core.List.{List}
+use Rattle.book.proofs.bytes.copy.Given as goal
+
+abbrev pub invariant-loop-i : goal.invariant-loop-i
+invariant-loop-i l = (l.i ≤ l.count) × (l.to ≡ paste l.initial.to l.at (drop l.start l.from) l.i) × (length l.to ≡ length l.initial.to)
+
+abbrev pub decreases-loop-i : goal.decreases-loop-i
+decreases-loop-i l = l.count - l.i

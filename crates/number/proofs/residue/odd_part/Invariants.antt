@@ -1,0 +1,11 @@
+-- `number::residue::odd_part` meets its contract: halving keeps a positive even number positive. The measure is the number left.
+-- Assumes nothing.
+use Prim.Native.Nat.{◌≤◌, ◌<◌}
+use native.Mathlib.Omega.{arith}
+use Rattle.number.proofs.residue.odd_part.Given as goal
+
+abbrev pub invariant-loop-odd : goal.invariant-loop-odd
+invariant-loop-odd l = (0 < l.odd) × (l.odd ≤ l.number)
+
+abbrev pub decreases-loop-odd : goal.decreases-loop-odd
+decreases-loop-odd l = l.odd

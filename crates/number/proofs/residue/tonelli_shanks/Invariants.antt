@@ -1,0 +1,11 @@
+-- `number::residue::tonelli_shanks` meets its contract: products modulo the prime are below it. The measure is the exponent left to
+-- try. Assumes nothing.
+use Prim.Native.Nat.{◌<◌}
+use native.Mathlib.Omega.{arith}
+use Rattle.number.proofs.residue.tonelli_shanks.Given as goal
+
+abbrev pub invariant-loop-half : goal.invariant-loop-half
+invariant-loop-half l = (l.root < l.prime) × (l.excess < l.prime) × (l.factor < l.prime)
+
+abbrev pub decreases-loop-half : goal.decreases-loop-half
+decreases-loop-half l = l.half

@@ -1,0 +1,53 @@
+-- `number::splitting::square_part` meets its contract. The invariant is `Trial`: the root taken out times the square part of what is
+-- left is the square part of n. The measure is what is left plus the way of the divisor to its limit. Assumes nothing.
+use mathlib.Core.Path.{sym, ◌∙◌}
+use Prim.Native.Nat.{◌+◌, ◌-◌}
+use native.Mathlib.Nat.{mul-le-mul}
+use native.Mathlib.Omega.{arith}
+use Rattle.number.proofs.TrialDivision.{divisor_limit, Trial, trial_start, trial_next, trial_once, trial_twice, trial_square, trial_squarefree, quotient_below, second_quotient_below, divisor_below_bound, square_times_divisor_at_most, square_times_root_at_most}
+use Rattle.number.proofs.splitting.square_part.Goals as goal
+
+pub loop-divisor-init : goal.loop-divisor-init
+loop-divisor-init c = trial_start c.args.n
+
+pub overflow_mul-divisor : goal.overflow_mul-divisor
+overflow_mul-divisor c = omega (arith, mul-le-mul c.loop-divisor.invariant.divisor_bound c.loop-divisor.invariant.divisor_bound)
+
+pub loop-divisor-smaller-then-rest-divisor-ne0 : goal.loop-divisor-smaller-then-rest-divisor-ne0
+loop-divisor-smaller-then-rest-divisor-ne0 c = omega (arith, divisor_below_bound c.loop-divisor.invariant c.loop-divisor-test.true c.ranges.n.fits)
+
+pub loop-divisor-preserved-then-rest-divisor-ne0 : goal.loop-divisor-preserved-then-rest-divisor-ne0
+loop-divisor-preserved-then-rest-divisor-ne0 c = trial_next c.loop-divisor.invariant c.loop-divisor-test.true c.ranges.n.fits c.if-rest-divisor-ne0.true
+
+pub loop-divisor-smaller-then-quotient-divisor-ne0 : goal.loop-divisor-smaller-then-quotient-divisor-ne0
+loop-divisor-smaller-then-quotient-divisor-ne0 c = omega (arith, quotient_below c.loop-divisor.invariant c.loop-divisor-test.true)
+
+pub loop-divisor-preserved-then-quotient-divisor-ne0 : goal.loop-divisor-preserved-then-quotient-divisor-ne0
+loop-divisor-preserved-then-quotient-divisor-ne0 c = trial_once c.loop-divisor.invariant c.loop-divisor-test.true c.if-rest-divisor-ne0.false c.if-quotient-divisor-ne0.true
+
+pub overflow_mul-square : goal.overflow_mul-square
+overflow_mul-square c =
+    omega (
+      arith,
+      square_times_divisor_at_most c.loop-divisor.invariant c.loop-divisor-test.true c.if-rest-divisor-ne0.false c.if-quotient-divisor-ne0.false,
+    )
+
+pub loop-divisor-smaller : goal.loop-divisor-smaller
+loop-divisor-smaller c = omega (arith, second_quotient_below c.loop-divisor.invariant c.loop-divisor-test.true)
+
+pub loop-divisor-preserved : goal.loop-divisor-preserved
+loop-divisor-preserved c = trial_twice c.loop-divisor.invariant c.loop-divisor-test.true c.if-rest-divisor-ne0.false c.if-quotient-divisor-ne0.false
+
+pub overflow_mul-result : goal.overflow_mul-result
+overflow_mul-result c =
+    let t = c.loop-divisor.invariant in
+    omega (arith, square_times_root_at_most t (sym c.is_square.ensures ∙ c.if-is_square.true) c.root.ensures)
+
+pub returns-then-is_square : goal.returns-then-is_square
+returns-then-is_square c =
+    let t = c.loop-divisor.invariant in
+    trial_square t (sym c.is_square.ensures ∙ c.if-is_square.true) c.root.ensures
+
+pub returns-else-is_square : goal.returns-else-is_square
+returns-else-is_square c =
+    trial_squarefree c.loop-divisor.invariant c.loop-divisor-test.false (sym c.is_square.ensures ∙ c.if-is_square.false)

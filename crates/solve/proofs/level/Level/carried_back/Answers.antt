@@ -1,0 +1,34 @@
+-- `solve::level::Level::carried_back` meets its contract: the point before the division is within the paper's limit, so the machine's
+-- normal form is the normal form. Assumes nothing.
+use mathlib.Core.Path.{◌≡◌, sym, ap, ◌∙◌, subst}
+use lib.Dec.{lit≤}
+use borrow.Author.Rules.{rules, sfits_of}
+use Rattle.legendre.specs.declared.outcome.Triple.{Triple}
+use Rattle.point.specs.Normal.{normal_within}
+use Rattle.point.specs.declared.Point.{Point}
+use Rattle.point.proofs.Limits.{within_wider, normal_within_is_normal, normal_passed}
+use Rattle.conic.specs.declared.conic.Conic.{Conic}
+use Rattle.solve.specs.Level.{primed, from_primed, carried_back}
+use Rattle.solve.specs.Sizes.{CarriedFrom, PrimedAt}
+use Rattle.solve.specs.declared.level.Level.{Level}
+use Rattle.solve.proofs.Sizes.{from_primed_within}
+use Rattle.solve.proofs.level.Level.carried_back.Goals as goal
+
+back : {h : Conic} {v : Level} {m : Triple} {p r : Point} →
+    CarriedFrom h v m → p ≡ from_primed h (primed v m) → r ≡ normal_within p → r ≡ carried_back h v m
+unfolding carried_back
+back {h} {v} {m} i e f = f ∙ ap normal_within e ∙ normal_within_is_normal (within_wider (lit≤ tt) (from_primed_within h (primed v m) i.conic i.carries.primed_within))
+
+pub from_primed-p-requires : goal.from_primed-p-requires
+from_primed-p-requires c =
+    let i = c.requires in
+    subst (PrimedAt c.args.h) (sym c.primed.ensures) (record { conic = i.conic; primed_within = i.carries.primed_within })
+
+pub returns : goal.returns
+returns c =
+    let told = c.struct_told-3-1.given in
+    let from = c.before.before.before.before in
+    let start = from.before.before in
+    back start.requires
+    (from.from_primed-p.ensures ∙ ap (from_primed start.args.h) from.primed.ensures)
+    (normal_passed from.from_primed-p.result (sfits_of told.0.1) (sfits_of told.1.0.1) (sfits_of told.1.1.0.1) c.normal.ensures)

@@ -1,0 +1,69 @@
+-- `solve::level::Level::from_parts` meets its contract: the common factor divides d, which is not 0, so it is not 0 and at most d in
+-- size, and a quotient is at most its dividend. Assumes nothing.
+use mathlib.Core.Path.{◌≡◌, refl, ap, ◌∙◌}
+use Prim.Native.Nat.{ℕ, ◌≤◌, ◌<◌}
+use native.Mathlib.Nat.{le_trans, le_of_dvd, pos_of_ne-zero, pos_of_dvd_of_pos}
+use lib.IntN.{ℤ, pos, nat_abs}
+use lib.Signed.{quot_z}
+use mir.Syntax.{w64}
+use borrow.Author.Rules.{rules}
+use Rattle.whole.proofs.Signed.{casts, fits, reads}
+use Rattle.whole.proofs.Size.{nat_abs_zero}
+use Rattle.number.specs.Gcd.{gcd_of}
+use Rattle.number.proofs.Gcd.{gcd_divides_left}
+use Rattle.point.specs.Normal.{largest}
+use Rattle.point.proofs.Passed.{factors}
+use Rattle.solve.specs.Level.{level_from}
+use Rattle.solve.specs.declared.level.Level.{Level}
+use Rattle.solve.proofs.level.Level.from_parts.Goals.{After-gcd-g, Start}
+use Rattle.solve.proofs.level.Level.from_parts.Goals as goal
+
+same_level : {v w : Level} → v.p ≡ w.p → v.g ≡ w.g → v.q ≡ w.q → v.s ≡ w.s → v.t ≡ w.t → v ≡ w
+same_level a b c d e = λ i. record { p = a i; g = b i; q = c i; s = d i; t = e i }
+
+written_out : (d e : ℤ) (s t : ℕ) {g : ℕ} → g ≡ gcd_of (nat_abs d) (nat_abs e) →
+    record { p = quot_z d (pos g); g = pos g; q = quot_z e (pos g); s = pos s; t = pos t } ≡ level_from d s e t
+unfolding level_from
+written_out d e s t e_is = ap (λ (g : ℕ). record { p = quot_z d (pos g); g = pos g; q = quot_z e (pos g); s = pos s; t = pos t }) e_is
+
+module _ (c : After-gcd-g) where
+  abbrev start : Start
+  start = c.before.before.before
+
+  g_is : c.gcd-g.result ≡ gcd_of (nat_abs start.args.d) (nat_abs start.args.e)
+  g_is = search factors depth 60 fits 9999
+
+  d_positive : 0 < nat_abs start.args.d
+  d_positive = pos_of_ne-zero (λ e. start.requires.d_not_zero (nat_abs_zero start.args.d e))
+
+  g_positive : 0 < c.gcd-g.result
+  g_positive = rw g_is (pos_of_dvd_of_pos (gcd_divides_left (nat_abs start.args.d) (nat_abs start.args.e)) d_positive)
+
+  g_small : c.gcd-g.result ≤ largest
+  g_small = rw g_is (le_trans (le_of_dvd d_positive (gcd_divides_left (nat_abs start.args.d) (nat_abs start.args.e))) start.requires.d_within)
+
+pub returns : goal.returns
+returns c =
+    let small = g_small c in
+    same_level
+    (reads (search casts depth 60 fits 9999) tt refl)
+    (reads (search casts depth 60 fits 9999) tt refl)
+    (reads (search casts depth 60 fits 9999) tt refl)
+    (reads (search casts depth 60 fits 9999) tt refl)
+    (reads (search casts depth 60 fits 9999) tt refl)
+    ∙ written_out _ _ _ _ (g_is c)
+
+pub overflow_cast-g : goal.overflow_cast-g
+overflow_cast-g c = let small = g_small c in fits w64 (search casts depth 60 fits 9999) tt
+
+pub nonzero_div-result : goal.nonzero_div-result
+nonzero_div-result c = let small = g_small c in (g_positive c, fits w64 (search casts depth 60 fits 9999) tt)
+
+pub nonzero_div-result-2 : goal.nonzero_div-result-2
+nonzero_div-result-2 c = let small = g_small c in (g_positive c, fits w64 (search casts depth 60 fits 9999) tt)
+
+pub overflow_cast-result : goal.overflow_cast-result
+overflow_cast-result c = fits w64 (search casts depth 60 fits 9999) tt
+
+pub overflow_cast-result-2 : goal.overflow_cast-result-2
+overflow_cast-result-2 c = fits w64 (search casts depth 60 fits 9999) tt
