@@ -6,17 +6,19 @@ mod conics;
 mod print;
 mod steps;
 
-fn main() {
-    conics::bench_rows();
-    conics::near_rows();
-    conics::refused_rows();
-    conics::least_rows();
-    conics::diagonal_rows();
-    conics::scattered_rows(4);
-    conics::scattered_rows(40);
-    steps::step_rows();
-    steps::back_rows();
-    steps::refused_steps();
-    steps::refused_back();
-    steps::round_trips();
+use std::io;
+
+fn main(rt: HostRuntime) -> io::Result<()> {
+    conics::bench_rows(&rt)?;
+    conics::near_rows(&rt)?;
+    conics::refused_rows(&rt)?;
+    conics::least_rows(&rt)?;
+    conics::diagonal_rows(&rt)?;
+    conics::scattered_rows(&rt, 4)?;
+    conics::scattered_rows(&rt, 40)?;
+    steps::step_rows(&rt)?;
+    steps::back_rows(&rt)?;
+    steps::refused_steps(&rt)?;
+    steps::refused_back(&rt)?;
+    steps::round_trips(&rt)
 }

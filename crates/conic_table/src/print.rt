@@ -1,72 +1,43 @@
 // A row's parts, in the paper's words.
 use conic::conic::Conic;
-use libc::STDOUT_FILENO;
 use point::paper::Refusal;
 use point::{Direction, Point};
 use solve::{Answer, Reason};
+use std::io;
 
-fn print_unsigned(n: u64) {
-    io::write_all(STDOUT_FILENO, b" ");
-    io::print_decimal(STDOUT_FILENO, n);
+pub fn print_conic(rt: &impl Print, h: Conic) -> io::Result<()> {
+    print!(rt; " {} {} {} {} {} {}", h.a, h.b, h.c, h.d, h.e, h.f)
 }
 
-fn print(n: i64) {
-    io::write_all(STDOUT_FILENO, b" ");
-    if n < 0 {
-        io::write_all(STDOUT_FILENO, b"-");
-    }
-    io::print_decimal(STDOUT_FILENO, whole::magnitude(n));
+pub fn print_point(rt: &impl Print, p: Point) -> io::Result<()> {
+    print!(rt; " {} {} {}", p.x, p.y, p.z)
 }
 
-pub fn print_conic(h: Conic) {
-    print(h.a);
-    print(h.b);
-    print(h.c);
-    print(h.d);
-    print(h.e);
-    print(h.f);
+pub fn print_direction(rt: &impl Print, t: Direction) -> io::Result<()> {
+    print!(rt; " {} {}", t.u, t.v)
 }
 
-pub fn print_point(p: Point) {
-    print(p.x);
-    print(p.y);
-    print(p.z);
+pub fn print_refusal(rt: &impl Print, refusal: Refusal) -> io::Result<()> {
+    print!(rt; ": R {}", refusal.number())
 }
 
-pub fn print_direction(t: Direction) {
-    print(t.u);
-    print(t.v);
-}
-
-pub fn print_refusal(refusal: Refusal) {
-    io::write_all(STDOUT_FILENO, b": R");
-    print_unsigned(refusal.number());
-}
-
-fn print_reason(reason: Reason) {
+fn print_reason(rt: &impl Print, reason: Reason) -> io::Result<()> {
     match reason {
-        Reason::Sign => {
-            io::write_all(STDOUT_FILENO, b": N sign");
-        }
-        Reason::Prime(prime) => {
-            io::write_all(STDOUT_FILENO, b": N prime");
-            print_unsigned(prime);
-        }
+        Reason::Sign => print!(rt; ": N sign"),
+        Reason::Prime(prime) => print!(rt; ": N prime {prime}"),
     }
 }
 
-pub fn print_answer(answer: Answer) {
+pub fn print_answer(rt: &impl Print, answer: Answer) -> io::Result<()> {
     match answer {
         Answer::Point(p) => {
-            io::write_all(STDOUT_FILENO, b": P");
-            print_point(p);
+            print!(rt; ": P")?;
+            print_point(rt, p)
         }
-        Answer::None(reason) => {
-            print_reason(reason);
-        }
+        Answer::None(reason) => print_reason(rt, reason),
     }
 }
 
-pub fn end_row() {
-    io::write_all(STDOUT_FILENO, b"\n");
+pub fn end_row(rt: &impl Print) -> io::Result<()> {
+    println!(rt;)
 }

@@ -2,8 +2,8 @@
 use crate::print::{end_row, print_conic, print_direction, print_point, print_refusal};
 use conic::conic::Conic;
 use direction::{Directed, Reached};
-use libc::STDOUT_FILENO;
 use point::{Direction, Point};
+use std::io;
 
 const CIRCLE: Conic = Conic {
     a: 1,
@@ -61,89 +61,91 @@ const ACROSS: Direction = Direction { u: 1, v: 0 };
 
 const UP: Direction = Direction { u: 0, v: 1 };
 
-fn point_row(h: Conic, base: Point, t: Direction) {
-    print_conic(h);
-    io::write_all(STDOUT_FILENO, b" from");
-    print_point(base);
-    io::write_all(STDOUT_FILENO, b" along");
-    print_direction(t);
+fn point_row(rt: &impl Print, h: Conic, base: Point, t: Direction) -> io::Result<()> {
+    print_conic(rt, h)?;
+    print!(rt; " from")?;
+    print_point(rt, base)?;
+    print!(rt; " along")?;
+    print_direction(rt, t)?;
     let reached = direction::point_of(h, base, t);
     match reached {
         Reached::Point(p) => {
-            io::write_all(STDOUT_FILENO, b": P");
-            print_point(p);
+            print!(rt; ": P")?;
+            print_point(rt, p)?;
         }
         Reached::Refused(refusal) => {
-            print_refusal(refusal);
+            print_refusal(rt, refusal)?;
         }
     }
-    end_row();
+    end_row(rt)
 }
 
-fn direction_row(h: Conic, base: Point, target: Point) {
-    print_conic(h);
-    io::write_all(STDOUT_FILENO, b" from");
-    print_point(base);
-    io::write_all(STDOUT_FILENO, b" to");
-    print_point(target);
+fn direction_row(rt: &impl Print, h: Conic, base: Point, target: Point) -> io::Result<()> {
+    print_conic(rt, h)?;
+    print!(rt; " from")?;
+    print_point(rt, base)?;
+    print!(rt; " to")?;
+    print_point(rt, target)?;
     let directed = direction::direction_of(h, base, target);
     match directed {
         Directed::Direction(t) => {
-            io::write_all(STDOUT_FILENO, b": D");
-            print_direction(t);
+            print!(rt; ": D")?;
+            print_direction(rt, t)?;
         }
         Directed::Refused(refusal) => {
-            print_refusal(refusal);
+            print_refusal(rt, refusal)?;
         }
     }
-    end_row();
+    end_row(rt)
 }
 
-pub fn step_rows() {
-    io::write_all(STDOUT_FILENO, b"direction to point\n");
-    point_row(CIRCLE, EAST, Direction { u: 1, v: -2 });
-    point_row(CIRCLE, EAST, ACROSS);
-    point_row(CIRCLE, EAST, UP);
-    point_row(CIRCLE, EAST, Direction { u: 10000, v: -9999 });
-    point_row(HYPERBOLA, UNIT, ACROSS);
-    point_row(HYPERBOLA, UNIT, UP);
-    point_row(HYPERBOLA, UNIT, Direction { u: 1, v: -1 });
-    point_row(PARABOLA, ORIGIN, UP);
-    point_row(PARABOLA, ORIGIN, ACROSS);
-    point_row(PARABOLA, ORIGIN, Direction { u: 2, v: -3 });
+pub fn step_rows(rt: &impl Print) -> io::Result<()> {
+    println!(rt; "direction to point")?;
+    point_row(rt, CIRCLE, EAST, Direction { u: 1, v: -2 })?;
+    point_row(rt, CIRCLE, EAST, ACROSS)?;
+    point_row(rt, CIRCLE, EAST, UP)?;
+    point_row(rt, CIRCLE, EAST, Direction { u: 10000, v: -9999 })?;
+    point_row(rt, HYPERBOLA, UNIT, ACROSS)?;
+    point_row(rt, HYPERBOLA, UNIT, UP)?;
+    point_row(rt, HYPERBOLA, UNIT, Direction { u: 1, v: -1 })?;
+    point_row(rt, PARABOLA, ORIGIN, UP)?;
+    point_row(rt, PARABOLA, ORIGIN, ACROSS)?;
+    point_row(rt, PARABOLA, ORIGIN, Direction { u: 2, v: -3 })
 }
 
-pub fn back_rows() {
-    io::write_all(STDOUT_FILENO, b"point to direction\n");
-    direction_row(CIRCLE, EAST, Point { x: 3, y: 4, z: 5 });
-    direction_row(CIRCLE, EAST, Point { x: -1, y: 0, z: 1 });
-    direction_row(CIRCLE, EAST, EAST);
-    direction_row(HYPERBOLA, UNIT, Point { x: 1, y: 0, z: 0 });
-    direction_row(HYPERBOLA, UNIT, Point { x: 0, y: 1, z: 0 });
-    direction_row(HYPERBOLA, UNIT, UNIT);
-    direction_row(PARABOLA, ORIGIN, Point { x: 0, y: 1, z: 0 });
-    direction_row(PARABOLA, ORIGIN, ORIGIN);
-    direction_row(PARABOLA, ORIGIN, Point { x: -6, y: 9, z: 4 });
+pub fn back_rows(rt: &impl Print) -> io::Result<()> {
+    println!(rt; "point to direction")?;
+    direction_row(rt, CIRCLE, EAST, Point { x: 3, y: 4, z: 5 })?;
+    direction_row(rt, CIRCLE, EAST, Point { x: -1, y: 0, z: 1 })?;
+    direction_row(rt, CIRCLE, EAST, EAST)?;
+    direction_row(rt, HYPERBOLA, UNIT, Point { x: 1, y: 0, z: 0 })?;
+    direction_row(rt, HYPERBOLA, UNIT, Point { x: 0, y: 1, z: 0 })?;
+    direction_row(rt, HYPERBOLA, UNIT, UNIT)?;
+    direction_row(rt, PARABOLA, ORIGIN, Point { x: 0, y: 1, z: 0 })?;
+    direction_row(rt, PARABOLA, ORIGIN, ORIGIN)?;
+    direction_row(rt, PARABOLA, ORIGIN, Point { x: -6, y: 9, z: 4 })
 }
 
 // In each of the first four rows two refusals apply, next to each other in the order.
-pub fn refused_steps() {
-    io::write_all(STDOUT_FILENO, b"refusals of direction to point\n");
-    point_row(OUT_OF_RANGE, EAST, ACROSS);
-    point_row(LINES, Point { x: 2, y: 2, z: 2 }, ACROSS);
-    point_row(CIRCLE, Point { x: 2, y: 2, z: 2 }, ACROSS);
-    point_row(CIRCLE, UNIT, Direction { u: 0, v: 0 });
-    point_row(CIRCLE, EAST, Direction { u: 0, v: 0 });
-    point_row(CIRCLE, EAST, Direction { u: 10001, v: 0 });
+pub fn refused_steps(rt: &impl Print) -> io::Result<()> {
+    println!(rt; "refusals of direction to point")?;
+    point_row(rt, OUT_OF_RANGE, EAST, ACROSS)?;
+    point_row(rt, LINES, Point { x: 2, y: 2, z: 2 }, ACROSS)?;
+    point_row(rt, CIRCLE, Point { x: 2, y: 2, z: 2 }, ACROSS)?;
+    point_row(rt, CIRCLE, UNIT, Direction { u: 0, v: 0 })?;
+    point_row(rt, CIRCLE, EAST, Direction { u: 0, v: 0 })?;
+    point_row(rt, CIRCLE, EAST, Direction { u: 10001, v: 0 })?;
     point_row(
+        rt,
         CIRCLE,
         EAST,
         Direction {
             u: 0,
             v: -9223372036854775808,
         },
-    );
+    )?;
     point_row(
+        rt,
         CIRCLE,
         Point {
             x: -9223372036854775808,
@@ -151,22 +153,23 @@ pub fn refused_steps() {
             z: 1,
         },
         ACROSS,
-    );
-    point_row(CIRCLE, Point { x: -1, y: 0, z: -1 }, ACROSS);
-    point_row(HYPERBOLA, Point { x: 1, y: 0, z: 0 }, ACROSS);
+    )?;
+    point_row(rt, CIRCLE, Point { x: -1, y: 0, z: -1 }, ACROSS)?;
+    point_row(rt, HYPERBOLA, Point { x: 1, y: 0, z: 0 }, ACROSS)
 }
 
 // In each of the first five rows two refusals apply, next to each other in the order.
-pub fn refused_back() {
-    io::write_all(STDOUT_FILENO, b"refusals of point to direction\n");
-    direction_row(OUT_OF_RANGE, EAST, EAST);
-    direction_row(LINES, Point { x: 2, y: 2, z: 2 }, EAST);
-    direction_row(CIRCLE, Point { x: 2, y: 2, z: 2 }, EAST);
-    direction_row(CIRCLE, UNIT, Point { x: 0, y: 0, z: 0 });
-    direction_row(CIRCLE, EAST, Point { x: 2, y: 2, z: 2 });
-    direction_row(CIRCLE, EAST, UNIT);
-    direction_row(CIRCLE, EAST, Point { x: 0, y: 0, z: 0 });
+pub fn refused_back(rt: &impl Print) -> io::Result<()> {
+    println!(rt; "refusals of point to direction")?;
+    direction_row(rt, OUT_OF_RANGE, EAST, EAST)?;
+    direction_row(rt, LINES, Point { x: 2, y: 2, z: 2 }, EAST)?;
+    direction_row(rt, CIRCLE, Point { x: 2, y: 2, z: 2 }, EAST)?;
+    direction_row(rt, CIRCLE, UNIT, Point { x: 0, y: 0, z: 0 })?;
+    direction_row(rt, CIRCLE, EAST, Point { x: 2, y: 2, z: 2 })?;
+    direction_row(rt, CIRCLE, EAST, UNIT)?;
+    direction_row(rt, CIRCLE, EAST, Point { x: 0, y: 0, z: 0 })?;
     direction_row(
+        rt,
         CIRCLE,
         EAST,
         Point {
@@ -174,8 +177,9 @@ pub fn refused_back() {
             y: 0,
             z: 1,
         },
-    );
+    )?;
     direction_row(
+        rt,
         CIRCLE,
         EAST,
         Point {
@@ -183,12 +187,12 @@ pub fn refused_back() {
             y: -9223372036854775808,
             z: 1,
         },
-    );
-    direction_row(CIRCLE, EAST, Point { x: 0, y: -1, z: 0 });
+    )?;
+    direction_row(rt, CIRCLE, EAST, Point { x: 0, y: -1, z: 0 })
 }
 
 // There and back.
-fn round_trip(u: i64, v: i64) {
+fn round_trip(rt: &impl Print, u: i64, v: i64) -> io::Result<()> {
     let h = Conic {
         a: 1,
         b: 1,
@@ -199,18 +203,18 @@ fn round_trip(u: i64, v: i64) {
     };
     let base = Point { x: -4, y: 5, z: 3 };
     let t = Direction { u, v };
-    point_row(h, base, t);
+    point_row(rt, h, base, t)?;
     if let Reached::Point(p) = direction::point_of(h, base, t) {
-        direction_row(h, base, p);
+        direction_row(rt, h, base, p)?;
     }
+    Ok(())
 }
 
-pub fn round_trips() {
-    io::write_all(STDOUT_FILENO, b"there and back\n");
-    let mut n: u64 = 0;
-    while n <= 12 {
-        round_trip(3, n as i64);
-        round_trip(n as i64, -5);
-        n += 1;
+pub fn round_trips(rt: &impl Print) -> io::Result<()> {
+    println!(rt; "there and back")?;
+    for n in 0..13 {
+        round_trip(rt, 3, n)?;
+        round_trip(rt, n, -5)?;
     }
+    Ok(())
 }

@@ -4,9 +4,12 @@
 ghost use Rattle.std.specs.Prelude.{◌≤◌, length};
 ghost use Rattle.row.specs.Row.{buffer_limit};
 
-use libc::{STDIN_FILENO, STDOUT_FILENO};
 use row::Written;
 use rows::Cutter;
+use std::io::{Read, Write};
+
+// How many bytes are read and written at a time.
+const PIECE: usize = 65536;
 
 // The row in the making, and whether there is more to read.
 #[derive(Clone, Copy)]
@@ -24,7 +27,7 @@ fn stopped() -> Reading {
 }
 
 // Answers a piece and writes the answers out, a buffer at a time; stops where they cannot be written.
-fn answer(cutter: Cutter, piece: &[u8], out: &mut [u8]) -> Reading
+fn answer(output: &mut impl Write, cutter: Cutter, piece: &[u8], out: &mut [u8]) -> Reading
     requires { buffer_limit ≤ length out.old }
 {
     let mut current = cutter;
@@ -32,7 +35,7 @@ fn answer(cutter: Cutter, piece: &[u8], out: &mut [u8]) -> Reading
     while at < piece.len() {
         let fed = rows::feed(current, &piece[at..], out);
         let written = fed.written;
-        if !io::write_all(STDOUT_FILENO, &out[..written]) {
+        if output.write_all(&out[..written]).is_err() {
             return stopped();
         }
         current = fed.cutter;
@@ -45,47 +48,58 @@ fn answer(cutter: Cutter, piece: &[u8], out: &mut [u8]) -> Reading
 }
 
 // Reads once and answers what came. A read that fails ends the input.
-fn read(cutter: Cutter, input: &mut [u8], out: &mut [u8]) -> Reading
+fn read(
+    input: &mut impl Read,
+    output: &mut impl Write,
+    cutter: Cutter,
+    piece: &mut [u8],
+    out: &mut [u8],
+) -> Reading
     requires { buffer_limit ≤ length out.old }
 {
-    let got = libc::read(STDIN_FILENO, input);
-    if got <= 0 {
-        return Reading {
+    match input.read(piece) {
+        Ok(n) if n > 0 => answer(output, cutter, &piece[..n], out),
+        _ => Reading {
             cutter,
             goes_on: false,
-        };
+        },
     }
-    let n = io::count(got, input);
-    answer(cutter, &input[..n], out)
 }
 
-// Nothing says that input ends, so the reads are counted down from a number that no run uses up.
-fn read_all(input: &mut [u8], out: &mut [u8]) -> Cutter
+// Nothing says that input ends, so the reads are counted up to a number that no run reaches.
+fn read_all(
+    input: &mut impl Read,
+    output: &mut impl Write,
+    piece: &mut [u8],
+    out: &mut [u8],
+) -> Cutter
     requires { buffer_limit ≤ length out.old }
 {
     let mut reading = Reading {
         cutter: Cutter::new(),
         goes_on: true,
     };
-    let mut turns = u64::MAX;
-    while turns > 0 && reading.goes_on {
-        reading = read(reading.cutter, input, out);
-        turns -= 1;
+    for _ in 0..u64::MAX {
+        if !reading.goes_on {
+            break;
+        }
+        reading = read(input, output, reading.cutter, piece, out);
     }
     reading.cutter
 }
 
-// The last row, if the input ends without a line feed.
-fn finish(cutter: Cutter, out: &mut [u8]) {
-    let last = rows::finish(cutter, out);
-    if let Written::Length(n) = last {
-        io::write_all(STDOUT_FILENO, &out[..n]);
+// The last row, if the input ends without a line feed. A row that cannot be written is nobody's to read.
+fn finish(output: &mut impl Write, cutter: Cutter, out: &mut [u8]) {
+    if let Written::Length(n) = rows::finish(cutter, out) {
+        let _unread = output.write_all(&out[..n]).is_err();
     }
 }
 
-fn main() {
-    let mut input = io::large_buffer();
-    let mut out = io::large_buffer();
-    let cutter = read_all(&mut input, &mut out);
-    finish(cutter, &mut out);
+fn main(rt: HostRuntime) {
+    let mut input = rt.stdin();
+    let mut output = rt.stdout();
+    let mut piece = [0; PIECE];
+    let mut out = [0; PIECE];
+    let cutter = read_all(&mut input, &mut output, &mut piece, &mut out);
+    finish(&mut output, cutter, &mut out);
 }
