@@ -17,7 +17,6 @@ use Rattle.point.proofs.Passed.{passed_zero}
 use Rattle.conic.specs.Base.{from_base, Judgement, legal, refused, judged, judged_of, in_range}
 use Rattle.conic.specs.Form.{G, Δ}
 use Rattle.conic.specs.declared.base.Judged.{Judged}
-use Rattle.conic.specs.declared.base.Judged.TheVariants as Judged
 use Rattle.conic.specs.declared.conic.Conic.{Conic}
 use Rattle.book.specs.Reader.{is_right_point}
 

@@ -8,10 +8,8 @@ use Rattle.solve.specs.declared.Reason.TheVariants as Reason
 use Rattle.book.specs.Reader.{ReaderAnswer, with_point, with_none_by_sign, with_none_by_prime, degenerate, no_entry, entry, ReaderPromise}
 use Rattle.book.specs.Writer.{WriterAnswer, book_length, no_book, written, WriterPromise}
 use Rattle.book.specs.declared.Entry.{Entry}
-use Rattle.book.specs.declared.Entry.TheVariants as Entry
 use Rattle.book.specs.declared.Stored.TheVariants as Stored
 use Rattle.book.specs.declared.Written.{Written}
-use Rattle.book.specs.declared.Written.TheVariants as Written
 
 -- ---- the writer
 

@@ -11,7 +11,6 @@ use Rattle.book.specs.Layout.{count_limit}
 use Rattle.book.specs.Steps.{BookPut, RightList}
 use Rattle.book.specs.Writer.{book_of, conics_of, all_in_range, wrong_list, WriterAnswer, no_book, book_length, written, writer_answer, left, WriterPromise}
 use Rattle.book.specs.declared.Written.{Written}
-use Rattle.book.specs.declared.Written.TheVariants as Written
 
 module _ (list : List ℕ) where
   pub not_sixes : (length list % 6 ≡ 0 → ⊥) → wrong_list list ≡ true

@@ -9,13 +9,10 @@ use Rattle.conic.specs.Base.{in_range}
 use Rattle.conic.specs.declared.conic.Conic.{Conic}
 use Rattle.solve.specs.Solve.{solve_of}
 use Rattle.solve.specs.declared.Reason.{Reason}
-use Rattle.solve.specs.declared.Reason.TheVariants as Reason
 use Rattle.book.specs.Bytes.{number_at}
 use Rattle.book.specs.Layout.{count_limit, body_length, count_of, kind_at, offset_at, conic_at, point_at}
 use Rattle.book.specs.declared.Entry.{Entry}
-use Rattle.book.specs.declared.Entry.TheVariants as Entry
 use Rattle.book.specs.declared.Stored.{Stored}
-use Rattle.book.specs.declared.Stored.TheVariants as Stored
 
 -- where the bodies before entry i end
 unfoldable pub bodies_end : List ℕ → ℕ → ℕ

@@ -7,7 +7,6 @@ use Rattle.solve.specs.Solve.{solve_of}
 use Rattle.book.specs.Bytes.{bytes}
 use Rattle.book.specs.Layout.{count_limit, body_length, kind_of, coefficients, added, conic_at}
 use Rattle.book.specs.declared.Written.{Written}
-use Rattle.book.specs.declared.Written.TheVariants as Written
 
 -- the entries of conics whose bodies start at an offset
 unfoldable pub entries : ℕ → List Conic → List ℕ

@@ -79,7 +79,7 @@ swapped m n o w = by_ring (m ∷ n ∷ o ∷ w ∷ []) (search reify depth 64 fi
 nothing_left : (m n : ℤ) → pos 0 ≡ m *ℤ n +ℤ neg_ℤ n *ℤ m
 nothing_left m n = by_ring (m ∷ n ∷ []) (search reify depth 64 fits 9999) tt
 
--- T = z₀Q − Q_z-as-P
+-- T = z₀Q − Q_z·P
 chord_line : (p q : Point) → at_infinity (chord p q) ≡ line p.z q (neg_ℤ q.z) p
 unfolding at_infinity chord
 chord_line p q =

@@ -7,7 +7,6 @@ use native.Mathlib.Omega.{arith}
 use Rattle.point.specs.Legal.{is_base, is_direction}
 use Rattle.point.specs.Paper.{Verdict, point, none_by_sign_lem, none_by_prime, refusal, is_zero}
 use Rattle.point.specs.declared.paper.Refusal.{Refusal}
-use Rattle.point.specs.declared.paper.Refusal.TheVariants as Refusal
 use Rattle.point.specs.declared.Point.{Point}
 use Rattle.point.specs.declared.Direction.{Direction}
 use Rattle.point.proofs.Promise.{told_apart, numbered, numbered_number}
@@ -16,9 +15,7 @@ use Rattle.conic.specs.Form.{G, Δ}
 use Rattle.conic.specs.declared.conic.Conic.{Conic}
 use Rattle.direction.specs.Direction.{PointPromise, DirectionPromise, Bearing, direction, no_direction, reached, directed, point_from, point_of}
 use Rattle.direction.specs.declared.Reached.{Reached}
-use Rattle.direction.specs.declared.Reached.TheVariants as Reached
 use Rattle.direction.specs.declared.Directed.{Directed}
-use Rattle.direction.specs.declared.Directed.TheVariants as Directed
 
 -- ---- answers
 
@@ -52,20 +49,20 @@ direction_determined {r = r} {r' = r'} a b = told_apart directed to_directed dir
 -- ---- a direction leads to a point or is refused
 
 data Plain : Verdict → Type 0 where
-  is_point_lem : (p : Point) → Plain (point p)
-  is_refusal_lem : (n : ℕ) → Plain (refusal n)
+  plain_point : (p : Point) → Plain (point p)
+  plain_refusal : (n : ℕ) → Plain (refusal n)
 
 one_of : (t : Bool) {v w : Verdict} → Plain v → Plain w → Plain (cond t v w)
 one_of true v w = v
 one_of false v w = w
 
 no_sign : {v : Verdict} → Plain v → ¬ (v ≡ none_by_sign_lem)
-no_sign (is_point_lem p) e = let z : ◌≡◌ {A = ℕ} 0 1 = cc in omega arith
-no_sign (is_refusal_lem n) e = let z : ◌≡◌ {A = ℕ} 0 1 = cc in omega arith
+no_sign (plain_point p) e = let z : ◌≡◌ {A = ℕ} 0 1 = cc in omega arith
+no_sign (plain_refusal n) e = let z : ◌≡◌ {A = ℕ} 0 1 = cc in omega arith
 
 no_prime : {v : Verdict} (l : ℕ) → Plain v → ¬ (v ≡ none_by_prime l)
-no_prime l (is_point_lem p) e = let z : ◌≡◌ {A = ℕ} 0 1 = cc in omega arith
-no_prime l (is_refusal_lem n) e = let z : ◌≡◌ {A = ℕ} 0 1 = cc in omega arith
+no_prime l (plain_point p) e = let z : ◌≡◌ {A = ℕ} 0 1 = cc in omega arith
+no_prime l (plain_refusal n) e = let z : ◌≡◌ {A = ℕ} 0 1 = cc in omega arith
 
 pub point_is_no_none :
     (h : Conic) (p : Point) (t : Direction) → (¬ (point_of h p t ≡ none_by_sign_lem)) × ((l : ℕ) → ¬ (point_of h p t ≡ none_by_prime l))
@@ -73,9 +70,9 @@ unfolding point_of from_base
 point_is_no_none h p t =
     let plain : Plain (point_of h p t) =
     one_of (in_range h)
-    (one_of (is_zero (Δ h)) (is_refusal_lem 2)
+    (one_of (is_zero (Δ h)) (plain_refusal 2)
     (one_of (is_base p)
-    (one_of (is_zero (G h p)) (one_of (is_direction t) (is_point_lem (point_from h p t)) (is_refusal_lem 7)) (is_refusal_lem 6))
-    (is_refusal_lem 5)))
-    (is_refusal_lem 1) in
+    (one_of (is_zero (G h p)) (one_of (is_direction t) (plain_point (point_from h p t)) (plain_refusal 7)) (plain_refusal 6))
+    (plain_refusal 5)))
+    (plain_refusal 1) in
     (no_sign plain, λ l. no_prime l plain)

@@ -10,9 +10,7 @@ use Rattle.conic.specs.Form.{G, Gx, Gy, drawn}
 use Rattle.conic.specs.Base.{from_base}
 use Rattle.conic.specs.declared.conic.Conic.{Conic}
 use Rattle.direction.specs.declared.Reached.{Reached}
-use Rattle.direction.specs.declared.Reached.TheVariants as Reached
 use Rattle.direction.specs.declared.Directed.{Directed}
-use Rattle.direction.specs.declared.Directed.TheVariants as Directed
 
 -- Answers
 
@@ -39,7 +37,7 @@ point_from h p t = normal (drawn h p (at_infinity t))
 unfoldable pub tangent : Conic → Point → Direction
 tangent h p = record { u = Gy h p; v = neg_ℤ (Gx h p) }
 
--- (Qx-as-Pz − Px-as-Qz, Qy-as-Pz − Py-as-Qz)
+-- (Qx·Pz − Px·Qz, Qy·Pz − Py·Qz)
 unfoldable pub chord : Point → Point → Direction
 chord p q = record { u = q.x *ℤ p.z -ℤ p.x *ℤ q.z; v = q.y *ℤ p.z -ℤ p.y *ℤ q.z }
 

@@ -5,7 +5,6 @@ use Prim.Native.Nat.{ℕ}
 use lib.ListN.{get_or}
 use Rattle.point.specs.Paper.{number}
 use Rattle.point.specs.declared.paper.Refusal.{Refusal}
-use Rattle.point.specs.declared.paper.Refusal.TheVariants as Refusal
 
 -- what goes there and back is determined by what it becomes
 pub told_apart : {A B : Type 0} (f : A → B) (back : B → A) → ((a : A) → back (f a) ≡ a) → (a a' : A) → f a ≡ f a' → a ≡ a'

@@ -1,7 +1,6 @@
 -- The paper's limits, its refusal numbers, and what an answer about a conic says. Assumes nothing.
 use Rattle.std.specs.Prelude.{Bool, ◌&&◌, ℕ, leb, eqb, ℤ, nat_abs}
 use Rattle.point.specs.declared.paper.Refusal.{Refusal}
-use Rattle.point.specs.declared.paper.Refusal.TheVariants as Refusal
 use Rattle.point.specs.declared.Point.{Point}
 use Rattle.point.specs.declared.Direction.{Direction}
 

@@ -6,7 +6,6 @@ use Prim.Native.Nat.{ℕ}
 use Rattle.point.proofs.Promise.{told_apart, numbered, numbered_number}
 use Rattle.row.specs.Row.{RowAnswer, row_length, no_row, written, RowPromise}
 use Rattle.row.specs.declared.Written.{Written}
-use Rattle.row.specs.declared.Written.TheVariants as Written
 
 abbrev to_written : RowAnswer → Written
 to_written (row_length n) = Written.Length n

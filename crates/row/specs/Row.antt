@@ -8,7 +8,6 @@ use Rattle.solve.specs.Solve.{solve_of}
 use Rattle.row_reader.specs.Reading.{read_row}
 use Rattle.row.specs.Writing.{row_text}
 use Rattle.row.specs.declared.Written.{Written}
-use Rattle.row.specs.declared.Written.TheVariants as Written
 
 abbrev pub buffer_limit : ℕ
 buffer_limit = 40

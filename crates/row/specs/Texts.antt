@@ -2,9 +2,7 @@
 use Rattle.std.specs.Prelude.{List, [], ℕ}
 use Rattle.point.specs.Paper.{point, refusal, number}
 use Rattle.solve.specs.declared.Answer.{Answer}
-use Rattle.solve.specs.declared.Answer.TheVariants as Answer
 use Rattle.solve.specs.declared.Solved.{Solved}
-use Rattle.solve.specs.declared.Solved.TheVariants as Solved
 use Rattle.row.specs.Writing.{row_text}
 
 abbrev pub refusal_text : Solved → List ℕ

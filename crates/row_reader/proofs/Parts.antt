@@ -18,7 +18,6 @@ use Rattle.row_reader.specs.Reading.{space, minus, digit_zero, is_digit, in_fron
 use Rattle.row_reader.specs.Steps.{Legal, LegalReader, fresh, current, pushed, start, after_space, after_minus, after_digit, step_of, reader_after, end_of, reader_end, steps}
 use Rattle.row_reader.specs.declared.Place.{Place}
 use Rattle.row_reader.specs.declared.Reader.{Reader}
-use Rattle.row_reader.specs.declared.Reader.TheVariants as Reader
 use Rattle.row_reader.proofs.RestOfNumber.{sign_of, more_digits, number_from, only_digits, no_number, ended, not_begun, number_begins, not_a_digit, seven_digits, one_digit}
 use Rattle.row_reader.proofs.Steps.{legal_after}
 

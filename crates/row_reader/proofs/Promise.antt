@@ -6,7 +6,6 @@ use Rattle.point.proofs.Promise.{told_apart}
 use Rattle.conic.specs.declared.conic.Conic.{Conic}
 use Rattle.row_reader.specs.Steps.{content_of}
 use Rattle.row_reader.specs.declared.Content.{Content}
-use Rattle.row_reader.specs.declared.Content.TheVariants as Content
 
 abbrev to_content : Option Conic → Content
 to_content none = Content.Broken

@@ -14,7 +14,6 @@ use Rattle.row_reader.specs.Reading.{space, minus, digit_zero, digit_nine, is_di
 use Rattle.row_reader.specs.Steps.{Legal, LegalReader, fresh, current, pushed, after_space, after_minus, after_digit, step_of, reader_after}
 use Rattle.row_reader.specs.declared.Place.{Place}
 use Rattle.row_reader.specs.declared.Reader.{Reader}
-use Rattle.row_reader.specs.declared.Reader.TheVariants as Reader
 
 pub record Digit (b : ℕ) : Type 0 where
   pub low : digit_zero ≤ b

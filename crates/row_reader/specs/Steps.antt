@@ -5,9 +5,7 @@ use Rattle.conic.specs.declared.conic.Conic.{Conic}
 use Rattle.row_reader.specs.Reading.{space, minus, digit_zero, is_digit}
 use Rattle.row_reader.specs.declared.Place.{Place}
 use Rattle.row_reader.specs.declared.Reader.{Reader}
-use Rattle.row_reader.specs.declared.Reader.TheVariants as Reader
 use Rattle.row_reader.specs.declared.Content.{Content}
-use Rattle.row_reader.specs.declared.Content.TheVariants as Content
 
 -- the number that is being read, as far as it has come
 unfoldable pub current : Place → ℤ

@@ -11,7 +11,6 @@ use lib.ListN.{length, drop, length-append}
 use Rattle.row.specs.Row.{row_of, buffer_limit, too_short, row_length, no_row}
 use Rattle.row.specs.Writing.{line_feed}
 use Rattle.row.specs.declared.Written.{Written}
-use Rattle.row.specs.declared.Written.TheVariants as Written
 use Rattle.rows.specs.Cutter.{keep, emptied, held_text, Feeding, stopped, after, feed_of, finish_of, FeedPromise, FinishPromise}
 use Rattle.rows.specs.Whole.{FeedingGoesOn}
 use Rattle.rows.specs.declared.Cutter.{Cutter}

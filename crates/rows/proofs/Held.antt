@@ -12,7 +12,6 @@ use lib.Seq.{take_all, take-length}
 use Rattle.point.specs.declared.paper.Refusal.TheVariants as Refusal
 use Rattle.row.specs.Row.{row_of, buffer_limit, too_short, RowPromise}
 use Rattle.row.specs.declared.Written.{Written}
-use Rattle.row.specs.declared.Written.TheVariants as Written
 use Rattle.rows.specs.Cutter.{holding, held_text, finish_of, FinishPromise}
 use Rattle.rows.specs.Input.{answers, last_row}
 use Rattle.rows.specs.declared.Cutter.{Cutter}

@@ -12,7 +12,6 @@ use lib.Seq.{drop-drop, drop_at, drop-length, take_at, take_all, length-take-le}
 use Rattle.point.specs.declared.paper.Refusal.{Refusal}
 use Rattle.row.specs.Row.{row_of, buffer_limit, too_short, row_length, no_row, RowPromise}
 use Rattle.row.specs.declared.Written.{Written}
-use Rattle.row.specs.declared.Written.TheVariants as Written
 
 -- n bytes of a row from the place w on
 pub placed : List ℕ → List ℕ → ℕ → ℕ → List ℕ

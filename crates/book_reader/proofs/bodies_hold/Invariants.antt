@@ -1,14 +1,8 @@
--- `book_reader::bodies_hold` meets its contract. The loop's invariant: the bodies before i are right, and end at `at`. Assumes nothing.
+-- Between two turns of `book_reader::bodies_hold` the bodies before i are right, and they end at `at`. Assumes nothing.
 use mathlib.Core.Bool.{true}
-use mathlib.Core.Path.{◌≡◌, refl, sym, ap, ap₂, ◌∙◌}
-use Prim.Native.Nat.{ℕ, ◌+◌, ◌*◌, ◌-◌, ◌≤◌, ◌<◌}
-use native.Mathlib.Omega.{arith}
-use Rattle.book.specs.Layout.{body_length, count_of}
-use Rattle.book.specs.Reader.{bodies_end, every_below, is_right, body_holds}
-use Rattle.book.proofs.BodyKinds.{length_at_most}
-use Rattle.book.proofs.Contents.{layout_right, end_more, end_at_most, body_within}
-use Rattle.book.proofs.Every.{every_fails, every_more}
-use Rattle.book.proofs.Judged.{failed, held}
+use mathlib.Core.Path.{◌≡◌}
+use Prim.Native.Nat.{◌-◌, ◌≤◌}
+use Rattle.book.specs.Reader.{bodies_end, every_below, body_holds}
 use Rattle.book_reader.proofs.bodies_hold.Given as goal
 
 abbrev pub invariant-loop-i : goal.invariant-loop-i

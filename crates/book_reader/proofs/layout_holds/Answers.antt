@@ -1,11 +1,10 @@
--- `book_reader::layout_holds` meets its contract. Assumes nothing.
+-- `book_reader::layout_holds` meets its contract: the code's tests are the definition's, one after the other. Assumes nothing.
 use mathlib.Core.Bool.{◌&&◌}
 use mathlib.Core.Path.{ap, ◌∙◌}
 use Prim.Native.Nat.{ℕ}
 use native.Mathlib.Omega.{arith}
 use lib.Dec.{eqb}
 use lib.ListN.{length}
-use borrow.Author.Rules.{rules}
 use Rattle.book.specs.Reader.{bodies_end, every_below, entry_holds}
 use Rattle.book.proofs.Contents.{no_count, no_contents, too_many, contents_hold}
 use Rattle.book_reader.proofs.layout_holds.Goals as goal
@@ -18,9 +17,6 @@ returns-then-book-count c = no_contents c.args.book.now (omega arith)
 
 pub returns-then-count-gt-COUNT_LIMIT : goal.returns-then-count-gt-COUNT_LIMIT
 returns-then-count-gt-COUNT_LIMIT c = too_many c.args.book.now (omega arith)
-
-pub entries_hold-requires : goal.entries_hold-requires
-entries_hold-requires c = record { count_is = c.two_at-count.ensures.0; count_at_most = omega arith; room = omega arith }
 
 pub returns : goal.returns
 returns c =

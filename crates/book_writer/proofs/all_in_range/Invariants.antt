@@ -1,14 +1,10 @@
--- `book_writer::all_in_range` meets its contract. The loop's invariant: the conics passed are in range. Assumes nothing.
-use mathlib.Core.Bool.{Bool, ◌&&◌}
-use mathlib.Core.Path.{◌≡◌, sym, ap, ◌∙◌}
-use Prim.Native.Nat.{◌+◌, ◌-◌, ◌%◌, ◌≤◌}
-use native.Mathlib.Omega.{arith}
+-- Between two turns of `book_writer::all_in_range` the list is in range exactly if the conics that are left are: those passed are in
+-- range. Assumes nothing.
+use mathlib.Core.Path.{◌≡◌}
+use Prim.Native.Nat.{◌-◌, ◌%◌, ◌≤◌}
 use lib.ListN.{length}
-use borrow.Author.Rules.{rules}
-use Rattle.conic.specs.Base.{in_range}
 use Rattle.book.specs.Writer.{conics_of, all_in_range}
-use Rattle.book.proofs.Judged.{failed, held}
-use Rattle.book.proofs.Listed.{conics_after, after_all_lem, range_more, range_none}
+use Rattle.book.proofs.Listed.{conics_after}
 use Rattle.book_writer.proofs.all_in_range.Given as goal
 
 abbrev pub invariant-loop-at : goal.invariant-loop-at

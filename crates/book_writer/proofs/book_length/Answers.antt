@@ -1,39 +1,27 @@
--- `book_writer::book_length` meets its contract. The loop's invariant: the bodies that are left make up what is missing. Assumes nothing.
-use mathlib.Core.Path.{◌≡◌, ap, ◌∙◌}
-use Prim.Native.Nat.{◌+◌, ◌-◌, ◌%◌, ◌≤◌}
+-- `book_writer::book_length` meets its contract: each conic's body is as long as its kind says, and no book is too long to count.
+-- Assumes nothing.
+use mathlib.Core.Path.{◌≡◌, refl, ap, ◌∙◌}
 use native.Mathlib.Omega.{arith}
-use lib.ListN.{length}
-use borrow.Author.Rules.{rules}
-use Rattle.solve.specs.Answer.{solved}
 use Rattle.solve.specs.Solve.{solve_of}
 use Rattle.book.specs.Layout.{body_length, kind_of, conic_at}
-use Rattle.book.specs.Writer.{bodies, book_of, conics_of}
-use Rattle.book.proofs.BodyKinds.{length_at_most, kind_at_most}
+use Rattle.book.proofs.BodyKinds.{length_at_most}
 use Rattle.book.proofs.Lengths.{length_list_book, list_book_at_most, length_left_more, length_left_none}
-use Rattle.book.proofs.Listed.{conics_after}
 use Rattle.book_writer.proofs.book_length.Goals as goal
 
 pub loop-at-init : goal.loop-at-init
-loop-at-init c = (omega arith, omega arith, omega (arith, length_list_book c.args.list.now))
-
-pub body_length-total-requires : goal.body_length-total-requires
-body_length-total-requires c = rw c.kind_of-kind.ensures (kind_at_most (solved c.solve.result))
+loop-at-init c = (refl, omega arith, omega (arith, length_list_book c.args.list.now))
 
 pub overflow_add-total-in-loop-at : goal.overflow_add-total-in-loop-at
 overflow_add-total-in-loop-at c =
-    let turn = c.before.before.before.before.before in
-    let list = turn.args.list.now in
-    omega (arith, turn.loop-at.invariant.2, list_book_at_most list, length_at_most c.kind_of-kind.result, c.body_length-total.ensures, turn.requires)
+    omega (arith, c.loop-at.invariant.2, list_book_at_most c.args.list.now, length_at_most c.kind_of-kind.result, c.body_length-total.ensures, c.requires)
 
 pub loop-at-preserved : goal.loop-at-preserved
 loop-at-preserved c =
-    let turn = c.before.before.before.before.before in
-    let list = turn.args.list.now in
-    let kind : c.kind_of-kind.result ≡ kind_of (solve_of (conic_at list turn.loop-at.at)) =
-    c.kind_of-kind.ensures
-    ∙ ap kind_of (c.solve.ensures.as_defined ∙ ap solve_of c.conic_at.ensures) in
-    let long : c.body_length-total.result ≡ body_length (kind_of (solve_of (conic_at list turn.loop-at.at))) = c.body_length-total.ensures ∙ ap body_length kind in
-    (omega arith, omega arith, omega (arith, turn.loop-at.invariant.2, long, length_left_more list turn.loop-at.at (omega arith)))
+    let list = c.args.list.now in
+    let kind : c.kind_of-kind.result ≡ kind_of (solve_of (conic_at list c.loop-at.at)) =
+    c.kind_of-kind.ensures ∙ ap kind_of (c.solve.ensures.as_defined ∙ ap solve_of c.conic_at.ensures) in
+    let long : c.body_length-total.result ≡ body_length (kind_of (solve_of (conic_at list c.loop-at.at))) = c.body_length-total.ensures ∙ ap body_length kind in
+    (omega arith, omega arith, omega (arith, c.loop-at.invariant.2, long, length_left_more list c.loop-at.at (omega arith)))
 
 pub returns : goal.returns
 returns c = omega (arith, c.loop-at.invariant.2, length_left_none c.args.list.now c.loop-at.at c.loop-at-test.false)

@@ -1,15 +1,8 @@
--- `book_writer::book_length` meets its contract. The loop's invariant: the bodies that are left make up what is missing. Assumes nothing.
-use mathlib.Core.Path.{◌≡◌, ap, ◌∙◌}
+-- Between two turns of `book_writer::book_length` the bodies that are left make up what the total still misses. Assumes nothing.
+use mathlib.Core.Path.{◌≡◌}
 use Prim.Native.Nat.{◌+◌, ◌-◌, ◌%◌, ◌≤◌}
-use native.Mathlib.Omega.{arith}
 use lib.ListN.{length}
-use borrow.Author.Rules.{rules}
-use Rattle.solve.specs.Answer.{solved}
-use Rattle.solve.specs.Solve.{solve_of}
-use Rattle.book.specs.Layout.{body_length, kind_of, conic_at}
 use Rattle.book.specs.Writer.{bodies, book_of, conics_of}
-use Rattle.book.proofs.BodyKinds.{length_at_most, kind_at_most}
-use Rattle.book.proofs.Lengths.{length_list_book, list_book_at_most, length_left_more, length_left_none}
 use Rattle.book.proofs.Listed.{conics_after}
 use Rattle.book_writer.proofs.book_length.Given as goal
 

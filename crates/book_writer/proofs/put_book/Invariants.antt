@@ -1,13 +1,12 @@
--- `book_writer::put_book` meets its contract. The loop's invariant is that of `Between`. Assumes nothing.
+-- Between two turns of `book_writer::put_book` the buffer is what `Between` says: with the entries and bodies that are left it is as it
+-- will be at the end. Assumes nothing.
 use Prim.Native.Nat.{◌-◌}
-use native.Mathlib.Omega.{arith}
 use lib.ListN.{length}
-use Rattle.book.proofs.Between.{Between, between_start, next_within, next_fits, between_next, between_end}
-use Rattle.book.proofs.Lengths.{length_list_book}
+use Rattle.book.proofs.Between.{Between}
 use Rattle.book_writer.proofs.put_book.Given as goal
 
 abbrev pub invariant-loop-from : goal.invariant-loop-from
-invariant-loop-from l = Between l.list l.initial.book-1 l.book-1 l.offset l.entry l.from
+invariant-loop-from l = Between l.list l.initial.book l.book l.offset l.entry l.from
 
 abbrev pub decreases-loop-from : goal.decreases-loop-from
 decreases-loop-from l = length l.list - l.from

@@ -4,7 +4,6 @@ use mathlib.Core.Path.{◌≡◌, ap, ◌∙◌}
 use Prim.Native.Nat.{ℕ, ◌+◌, ◌≤◌}
 use lib.IntN.{ℤ, nat_abs}
 use lib.Seq.{sets}
-use borrow.Author.Rules.{rules}
 use mir.Facts.{to_z-of_z}
 use mir.Syntax.{w64}
 use mir.Val.{to_z, of_z}
@@ -24,14 +23,10 @@ passed book at n small e =
 
 pub returns : goal.returns
 returns c =
-    let third = c.before.before in
-    let second = third.before.before.before.before.before in
-    let first = second.before.before.before.before.before in
-    let start = first.before.before.before.before in
-    let p = start.args.p in
-    sets_three start.args.book-1.now first.put_signed.new.0 second.put_signed-2.new.0 third.put_signed-3.new.0 start.args.at
+    let p = c.args.p in
+    sets_three c.args.book.now c.put_signed.new.book c.put_signed-2.new.book c.put_signed-3.new.book c.args.at
     (bytes 4 (unsigned 4 p.x)) (bytes 4 (unsigned 4 p.y)) (bytes 4 (unsigned 4 p.z))
     (length_four (unsigned 4 p.x)) (length_four (unsigned 4 p.y))
-    (passed start.args.book-1.now start.args.at p.x start.requires.1.x_within first.put_signed.ensures)
-    (passed first.put_signed.new.0 (start.args.at + 4) p.y start.requires.1.y_within second.put_signed-2.ensures)
-    (passed second.put_signed-2.new.0 (start.args.at + 8) p.z start.requires.1.z_within third.put_signed-3.ensures)
+    (passed c.args.book.now c.args.at p.x c.requires.1.x_within c.put_signed.ensures)
+    (passed c.put_signed.new.book (c.args.at + 4) p.y c.requires.1.y_within c.put_signed-2.ensures)
+    (passed c.put_signed-2.new.book (c.args.at + 8) p.z c.requires.1.z_within c.put_signed-3.ensures)

@@ -9,7 +9,6 @@ use lib.Signed.{◌<ℤ◌, mag, clash_ℤ}
 use mir.Syntax.{w64}
 use mir.Val.{SFits, to_z, of_z}
 use mir.Facts.{to_z-of_z}
-use borrow.Author.Rules.{rules}
 use Rattle.whole.proofs.Order.{zero-≤ℤ_pos}
 use Rattle.whole.proofs.Signed.{ranges}
 use Rattle.whole.proofs.SignedTests.{tests, tells, lt_z_true, lt_z_false, cast_unsigned}

@@ -1,11 +1,8 @@
 -- `book::bytes::copy` meets its contract. The loop's invariant: the first i bytes are copied. Assumes nothing.
-use mathlib.Core.Path.{◌≡◌, refl, sym, ap, ◌∙◌}
-use Prim.Native.Nat.{ℕ, ◌+◌, ◌-◌, ◌≤◌, ◌<◌, zero-le}
-use native.Mathlib.Numerals.{add-one}
-use native.Mathlib.Omega.{arith}
-use lib.ListN.{length, get_or, set, drop, length-drop, length-set}
-use lib.Seq.{get_or-drop, paste, paste-zero, paste-suc}
-use mathlib.Core.List.{List}
+use mathlib.Core.Path.{◌≡◌}
+use Prim.Native.Nat.{◌-◌, ◌≤◌}
+use lib.ListN.{length, drop}
+use lib.Seq.{paste}
 use Rattle.book.proofs.bytes.copy.Given as goal
 
 abbrev pub invariant-loop-i : goal.invariant-loop-i

@@ -1,5 +1,4 @@
 -- `book::bytes::four_at` meets its contract: two numbers of two bytes. Assumes nothing.
-use borrow.Author.Rules.{rules}
 use native.Mathlib.Omega.{arith}
 use Rattle.book.proofs.LittleEndian.{number_four}
 use Rattle.book.proofs.bytes.four_at.Goals as goal

@@ -1,5 +1,4 @@
 -- `book::bytes::put_four` meets its contract: two runs of two bytes are one run. Assumes nothing.
-use borrow.Author.Rules.{rules}
 use Rattle.book.proofs.LittleEndian.{stored_four}
 use Rattle.book.proofs.bytes.put_four.Goals as goal
 

@@ -1,7 +1,6 @@
 -- `book::bytes::put_signed` meets its contract: with 2³² added a negative number that fits is not negative. Assumes nothing.
 use mathlib.Core.Path.{◌≡◌, ap, ◌∙◌}
 use Prim.Native.Nat.{ℕ}
-use borrow.Author.Rules.{rules}
 use lib.IntN.{pos, nat_abs, ◌+ℤ◌}
 use lib.Seq.{sets}
 use lib.Signed.{◌≤ℤ◌, ◌<ℤ◌}
@@ -37,11 +36,11 @@ returns-then-n-lt0 c =
     let n = a.n in
     let below : n <ℤ pos 0 = lt_z_true (tells (search tests depth 60 fits 9999) tt c.if-n-lt0.true) in
     let sum : n +ℤ pos 4_294_967_296 ≡ pos (unsigned 4 n) = unsigned_negative n below c.requires.1 in
-    c.put_four.ensures ∙ ap (λ (m : ℕ). sets a.book-1.now a.at (bytes 4 m)) (counts (search sizes depth 60 fits 9999) tt (ap nat_abs sum))
+    c.put_four.ensures ∙ ap (λ (m : ℕ). sets a.book.now a.at (bytes 4 m)) (counts (search sizes depth 60 fits 9999) tt (ap nat_abs sum))
 
 pub returns-else-n-lt0 : goal.returns-else-n-lt0
 returns-else-n-lt0 c =
     let a = c.args in
     let n = a.n in
     let above : pos 0 ≤ℤ n = lt_z_false (tells (search tests depth 60 fits 9999) tt c.if-n-lt0.false) in
-    c.put_four-else-n-lt0.ensures ∙ ap (λ (m : ℕ). sets a.book-1.now a.at (bytes 4 m)) (counts (search sizes depth 60 fits 9999) tt (ap nat_abs (unsigned_positive n above)))
+    c.put_four-else-n-lt0.ensures ∙ ap (λ (m : ℕ). sets a.book.now a.at (bytes 4 m)) (counts (search sizes depth 60 fits 9999) tt (ap nat_abs (unsigned_positive n above)))

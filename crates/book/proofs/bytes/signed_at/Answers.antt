@@ -1,5 +1,5 @@
 -- `book::bytes::signed_at` meets its contract. Assumes nothing.
-use borrow.Author.Rules.{rules, sfits_of}
+use borrow.Author.Rules.{sfits_of}
 use mathlib.Core.Path.{ap, ◌∙◌}
 use mir.Facts.{to_z-of_z}
 use mir.Syntax.{w64}
@@ -7,4 +7,4 @@ use Rattle.book.specs.Bytes.{signed_below}
 use Rattle.book.proofs.bytes.signed_at.Goals as goal
 
 pub returns : goal.returns
-returns c = to_z-of_z (sfits_of {w = w64} c.signed_below.type-inv) ∙ c.signed_below.ensures ∙ ap (signed_below 4_294_967_296) c.four_at.ensures.0
+returns c = to_z-of_z (sfits_of {w = w64} c.signed_below.type_inv) ∙ c.signed_below.ensures ∙ ap (signed_below 4_294_967_296) c.four_at.ensures.0

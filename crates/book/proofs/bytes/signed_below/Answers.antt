@@ -1,7 +1,6 @@
 -- `book::bytes::signed_below` meets its contract: at most 2³², both numbers are read as they are. Assumes nothing.
 use Prim.Native.Nat.{◌*◌, ◌≤◌}
 use native.Mathlib.Omega.{arith}
-use borrow.Author.Rules.{rules}
 use borrow.Author.Tests.{lt-ltb, le-ltb}
 use mir.Syntax.{w64}
 use Rattle.whole.proofs.Signed.{casts, fits, reads}

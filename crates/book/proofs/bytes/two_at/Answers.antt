@@ -1,5 +1,4 @@
 -- `book::bytes::two_at` meets its contract. Assumes nothing.
-use borrow.Author.Rules.{rules}
 use native.Mathlib.Omega.{arith}
 use Rattle.book.proofs.LittleEndian.{number_two}
 use Rattle.book.proofs.bytes.two_at.Goals as goal

@@ -14,7 +14,7 @@ use Rattle.legendre.proofs.FailingPrimes.{divisor_limit, Trial, trial_start, tri
 use Rattle.legendre.proofs.failing.failing.Given as goal
 
 abbrev pub invariant-loop-divisor : goal.invariant-loop-divisor
-invariant-loop-divisor l = Trial l.size (to_z w64 l.number) l.rest l.divisor
+invariant-loop-divisor l = Trial l.size l.number l.rest l.divisor
 
 abbrev pub decreases-loop-divisor : goal.decreases-loop-divisor
 decreases-loop-divisor l = l.rest + (divisor_limit - l.divisor)

@@ -26,12 +26,8 @@ told l {n} {m} e same = ap is_nothing e ∙ nothing_iff (is_square_modulo l n) (
 
 pub returns-in-Nothing : goal.returns-in-Nothing
 unfolding is_nothing
-returns-in-Nothing c =
-    let s = c.before.before.before in
-    ap is_nothing (sym c.enum_told-1.given.1) ∙ told s.args.prime c.least_root_lem.ensures (to_z-of_z s.ranges.number)
+returns-in-Nothing c = ap is_nothing (sym c.in-Nothing.is) ∙ told c.args.prime c.least_root-root.ensures (to_z-of_z c.ranges.number)
 
 pub returns-in_default : goal.returns-in_default
 unfolding is_nothing
-returns-in_default c =
-    let s = c.before.before.before in
-    ap is_nothing (sym c.enum_told-in_default-1.given.1) ∙ told s.args.prime c.least_root_lem.ensures (to_z-of_z s.ranges.number)
+returns-in_default c = ap is_nothing (sym c.in_default.is) ∙ told c.args.prime c.least_root-root.ensures (to_z-of_z c.ranges.number)

@@ -23,7 +23,7 @@ abbrev pub limit_of_w : ℕ
 limit_of_w = 2 ^ 30 + 1
 
 abbrev pub invariant-loop-x : goal.invariant-loop-x
-invariant-loop-x l = NoneAbove (to_z w64 l.p) (to_z w64 l.g) (to_z w64 l.q) l.w
+invariant-loop-x l = NoneAbove l.p l.g l.q l.w
 
 abbrev pub decreases-loop-x : goal.decreases-loop-x
 decreases-loop-x l = limit_of_w - l.w

@@ -3,6 +3,7 @@ use mathlib.Core.Path.{◌≡◌, sym, ap, ap₂, ◌∙◌}
 use Prim.Native.Nat.{◌^◌, ◌≤◌}
 use native.Mathlib.Omega.{arith}
 use lib.IntN.{ℤ, nat_abs, ◌*ℤ◌}
+use mir.Syntax.{w64}
 use mir.Facts.{to_z-of_z}
 use Rattle.number.proofs.Squarefree.{squarefree_not_zero}
 use Rattle.legendre.specs.Reach.{Terms}
@@ -35,7 +36,7 @@ module _ (c : After-terms-value) where
   value_is : kept c.terms-value.result ≡ value
   unfolding value
   value_is =
-      to_z-of_z (record { sfits = c.terms-value.type-inv }) ∙ c.terms-value.ensures
+      to_z-of_z {w = w64} (record { sfits = c.terms-value.type_inv }) ∙ c.terms-value.ensures
       ∙ ap₂ (λ (p q : ℤ). terms p q c.args.w c.args.x) (to_z-of_z c.ranges.p) (to_z-of_z c.ranges.q)
 
 sign_is : (c : After-same_sign) → c.same_sign.result ≡ same_sign (value c.before) c.args.g

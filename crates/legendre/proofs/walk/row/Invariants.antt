@@ -20,7 +20,7 @@ abbrev pub limit_of_x : ℕ
 limit_of_x = 2 ^ 30 + 1
 
 abbrev pub invariant-loop-x : goal.invariant-loop-x
-invariant-loop-x l = (l.x ≤ limit_of_x) × NoneBefore (to_z w64 l.p) (to_z w64 l.g) (to_z w64 l.q) l.w l.x
+invariant-loop-x l = (l.x ≤ limit_of_x) × NoneBefore l.p l.g l.q l.w l.x
 
 abbrev pub decreases-loop-x : goal.decreases-loop-x
 decreases-loop-x l = limit_of_x - l.x

@@ -1,7 +1,6 @@
--- `number::residue::non_residue` meets its contract: the number stays below the prime. The measure is what is left up to it. Assumes
--- nothing.
+-- The loop of `number::residue::non_residue`: the number stays above 0 and below the prime. The measure is what is
+-- left up to the prime. Assumes nothing.
 use Prim.Native.Nat.{◌-◌, ◌≤◌, ◌<◌}
-use native.Mathlib.Omega.{arith}
 use Rattle.number.proofs.residue.non_residue.Given as goal
 
 abbrev pub invariant-loop-number : goal.invariant-loop-number

@@ -1,7 +1,6 @@
--- `number::residue::odd_part` meets its contract: halving keeps a positive even number positive. The measure is the number left.
--- Assumes nothing.
+-- The loop of `number::residue::odd_part`: halving keeps a positive even number positive. The measure is the number
+-- left, which a half is below. Assumes nothing.
 use Prim.Native.Nat.{◌≤◌, ◌<◌}
-use native.Mathlib.Omega.{arith}
 use Rattle.number.proofs.residue.odd_part.Given as goal
 
 abbrev pub invariant-loop-odd : goal.invariant-loop-odd

@@ -1,11 +1,12 @@
--- `number::residue::power` meets its contract. The loop's invariant: result·squareˡᵉᶠᵗ leaves what the power leaves. The measure is
--- what is left of the exponent. Assumes nothing.
+-- `number::residue::power` meets its contract: a turn takes a factor out of an odd power and squares, which keeps what
+-- result·squareˡᵉᶠᵗ leaves; at its end nothing is left of the exponent, and the result is what is left. Assumes
+-- nothing.
 use mathlib.Core.Path.{◌≡◌, sym, ◌∙◌, ap}
-use mathlib.Core.Logic.{⊎_elim}
 use Prim.Native.Nat.{ℕ, ◌*◌, ◌^◌, ◌/◌, ◌%◌, ◌<◌}
 use native.Mathlib.Nat.{one-mul}
 use native.Mathlib.Omega.{arith}
 use Rattle.number.proofs.Modulo.{power_even, power_odd, power_done}
+use Rattle.number.proofs.residue.power.Goals.{then-left-eq1, else-left-eq1}
 use Rattle.number.proofs.residue.power.Goals as goal
 
 not_odd : (k : ℕ) → (k % 2 ≡ 1 → ⊥) → k % 2 ≡ 0
@@ -24,10 +25,16 @@ loop-left-preserved c =
     let squared : t ≡ s * s % n = c.product-square.ensures.value in
     let q = c.if-left-eq1.result in
     let multiplied : (q < n) × (q * t ^ (k / 2) % n ≡ r * s ^ k % n) =
-    ⊎_elim
-    (λ w. (omega (arith, w.2, w.1.ensures.below), power_odd n r s t k squared q (w.2 ∙ w.1.ensures.value) w.0.taken))
-    (λ w. (omega (arith, w.1), ap (λ (x : ℕ). x * t ^ (k / 2) % n) w.1 ∙ power_even n r s t k squared (not_odd k w.0.left)))
-    c.if-left-eq1.branch in
+    elim c.if-left-eq1.branch [
+      | then-left-eq1 w ↦ (
+        omega (arith, w.product-result.ensures.below),
+        power_odd n r s t k squared q (w.result-is ∙ w.product-result.ensures.value) w.if-left-eq1.true,
+      )
+      | else-left-eq1 w ↦ (
+        omega arith,
+        ap (λ (x : ℕ). x * t ^ (k / 2) % n) w.result-is ∙ power_even n r s t k squared (not_odd k w.if-left-eq1.false),
+      )
+    ] in
     (multiplied.0, c.product-square.ensures.below, multiplied.1 ∙ c.loop-left.invariant.2)
 
 pub returns : goal.returns

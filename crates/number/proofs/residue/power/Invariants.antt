@@ -1,11 +1,7 @@
--- `number::residue::power` meets its contract. The loop's invariant: result·squareˡᵉᶠᵗ leaves what the power leaves. The measure is
--- what is left of the exponent. Assumes nothing.
-use mathlib.Core.Path.{◌≡◌, sym, ◌∙◌, ap}
-use mathlib.Core.Logic.{⊎_elim}
-use Prim.Native.Nat.{ℕ, ◌*◌, ◌^◌, ◌/◌, ◌%◌, ◌<◌}
-use native.Mathlib.Nat.{one-mul}
-use native.Mathlib.Omega.{arith}
-use Rattle.number.proofs.Modulo.{power_even, power_odd, power_done}
+-- The loop of `number::residue::power`: result·squareˡᵉᶠᵗ leaves what the power leaves. The measure is what is left of
+-- the exponent. Assumes nothing.
+use mathlib.Core.Path.{◌≡◌}
+use Prim.Native.Nat.{◌*◌, ◌^◌, ◌%◌, ◌<◌}
 use Rattle.number.proofs.residue.power.Given as goal
 
 abbrev pub invariant-loop-left : goal.invariant-loop-left

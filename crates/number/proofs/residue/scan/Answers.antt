@@ -1,14 +1,14 @@
--- `number::residue::scan` gives the least root. The loop's invariant: the square is that of the root modulo the prime, and no number
--- below the root is a root. The measure is what is left up to the prime. Assumes nothing.
+-- `number::residue::scan` gives the least root: the first number that squares to the residue is it, and where none up
+-- to half the prime does, none does, since a number and its opposite have one square. Assumes nothing.
 use mathlib.Core.Path.{◌≡◌, sym, ◌∙◌}
-use mathlib.Core.Logic.{⊎_elim}
-use Prim.Native.Nat.{ℕ, ◌+◌, ◌*◌, ◌-◌, ◌%◌, ◌≤◌, ◌<◌}
+use Prim.Native.Nat.{ℕ, ◌*◌, ◌%◌, ◌<◌}
 use native.Mathlib.Nat.{mod-lt, zero-mod, not-suc-le-zero}
 use native.Mathlib.Omega.{arith}
 use borrow.Author.Count.{below_more}
 use Rattle.number.specs.Root.{ProperResidue}
 use Rattle.number.proofs.Fermat.{odd_prime}
 use Rattle.number.proofs.LeastRoot.{first_root, no_root, next_square_below, next_square_above}
+use Rattle.number.proofs.residue.scan.Goals.{then-square-prime, else-square-prime}
 use Rattle.number.proofs.residue.scan.Goals as goal
 
 positive : {l a : ℕ} → ProperResidue l a → 0 < l
@@ -37,7 +37,10 @@ loop-root-preserved c =
     let squared : s ≡ r * r % l = c.loop-root.invariant.1 in
     let below : r * r % l < l = mod-lt (r * r) (positive c.requires) in (
       omega arith,
-      ⊎_elim (λ w. w.1 ∙ next_square_above l r s squared w.0.taken (omega arith)) (λ w. w.1 ∙ next_square_below l r s squared w.0.left) c.if-square-prime.branch,
+      elim c.if-square-prime.branch [
+        | then-square-prime w ↦ w.square-is ∙ next_square_above l r s squared w.if-square-prime.true (omega arith)
+        | else-square-prime w ↦ w.square-is ∙ next_square_below l r s squared w.if-square-prime.false
+      ],
       below_more _ _ c.loop-root.invariant.2 (λ e. c.if-square-residue.false (squared ∙ e)),
     )
 

@@ -1,7 +1,6 @@
--- `number::residue::tonelli_shanks` meets its contract: products modulo the prime are below it. The measure is the exponent left to
--- try. Assumes nothing.
+-- The loop of `number::residue::tonelli_shanks`: products modulo the prime are below it. The measure is the exponent
+-- left to try, which halves. Assumes nothing.
 use Prim.Native.Nat.{◌<◌}
-use native.Mathlib.Omega.{arith}
 use Rattle.number.proofs.residue.tonelli_shanks.Given as goal
 
 abbrev pub invariant-loop-half : goal.invariant-loop-half

@@ -1,7 +1,7 @@
--- `number::roots::root` meets its contract. The loop's invariant: the guess is above 0, at most 2³² and not below the root. The measure
--- is the guess, which falls while n / guess is below it. Assumes nothing.
+-- `number::roots::root` meets its contract: a power of two of half the length of n is not below the root, nor is a
+-- step from such a guess, and a guess that is at most n / guess is not above the root. Assumes nothing.
 use mathlib.Core.Path.{◌≡◌, sym, ap, subst, ◌∙◌}
-use Prim.Native.Nat.{ℕ, zero, suc, ◌*◌, ◌^◌, ◌≤◌, ◌<◌}
+use Prim.Native.Nat.{ℕ, zero, suc, ◌*◌, ◌^◌, ◌<◌}
 use native.Mathlib.Nat.{lt_of_lt_of_le, le-suc, le-div_iff_mul-le}
 use native.Mathlib.Omega.{arith}
 use lib.Pow.{pow_pos, pow_mono}

@@ -1,5 +1,4 @@
 -- `point::Direction::in_limit` meets its contract, test by test. Assumes nothing.
-use borrow.Author.Rules.{rules}
 use Rattle.point.specs.Paper.{direction_in_limit}
 use Rattle.point.proofs.Passed.{tested}
 use Rattle.point.proofs.Direction.in_limit.Goals as goal

@@ -1,5 +1,4 @@
 -- `point::Direction::is_direction` meets its contract, test by test. Assumes nothing.
-use borrow.Author.Rules.{rules}
 use Rattle.point.specs.Legal.{is_direction}
 use Rattle.point.proofs.Passed.{tested}
 use Rattle.point.proofs.Direction.is_direction.Goals as goal

@@ -1,5 +1,4 @@
 -- `point::Point::common_factor` meets its contract, call by call. Assumes nothing.
-use borrow.Author.Rules.{rules}
 use Rattle.point.specs.Normal.{common_factor}
 use Rattle.point.proofs.Passed.{factors}
 use Rattle.point.proofs.Point.common_factor.Goals as goal

@@ -6,7 +6,6 @@ use native.Mathlib.Nat.{le_of_dvd, zero-lt-suc, le_of_eq, le_trans}
 use lib.IntN.{ℤ, pos, negsuc, neg_ℤ, nat_abs, ◌-ℤ◌, +ℤ_idl}
 use lib.Signed.{◌<ℤ◌, ◌≤ℤ◌, clash_ℤ}
 use mir.Syntax.{w64}
-use borrow.Author.Rules.{rules}
 use Rattle.whole.proofs.Order.{zero-≤ℤ_pos, negsuc-<ℤ_pos}
 use Rattle.whole.proofs.Signed.{casts, ranges, fits, reads}
 use Rattle.whole.proofs.SignedTests.{tests, tells, lt_z_true, lt_z_false}

@@ -1,5 +1,4 @@
 -- `point::Point::in_limit` meets its contract. Assumes nothing.
-use borrow.Author.Rules.{rules}
 use Rattle.point.specs.Paper.{point_in_limit}
 use Rattle.point.proofs.Passed.{tested}
 use Rattle.point.proofs.Point.in_limit.Goals as goal

@@ -2,7 +2,6 @@
 use mathlib.Core.Path.{◌≡◌, ap}
 use Prim.Native.Nat.{ℕ}
 use lib.Dec.{eqb}
-use borrow.Author.Rules.{rules}
 use Rattle.point.specs.Legal.{is_normal}
 use Rattle.point.proofs.Passed.{tested}
 use Rattle.point.proofs.Point.is_normal.Goals as goal

@@ -1,5 +1,4 @@
 -- `point::Point::is_target` meets its contract, test by test. Assumes nothing.
-use borrow.Author.Rules.{rules}
 use Rattle.point.specs.Legal.{is_target}
 use Rattle.point.proofs.Passed.{tested}
 use Rattle.point.proofs.Point.is_target.Goals as goal

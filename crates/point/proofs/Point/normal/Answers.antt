@@ -6,7 +6,7 @@ use lib.IntN.{ℤ}
 use mir.Syntax.{w64}
 use mir.Val.{SFits, to_z, of_z}
 use mir.Facts.{to_z-of_z}
-use borrow.Author.Rules.{rules, sfits_of}
+use borrow.Author.Rules.{sfits_of}
 use Rattle.point.specs.Normal.{common_factor, leading, signed, over, normal, largest}
 use Rattle.point.specs.Paper.{within}
 use Rattle.point.specs.Sizes.{PointWithin}
@@ -46,7 +46,7 @@ pub divisor-requires : goal.divisor-requires
 divisor-requires c = subst (PointWithin largest) (given_is_stored c.before.before.before.before) (given_within c)
 
 pub over-requires : goal.over-requires
-over-requires c κs = divisor-requires c.before κs
+over-requires c = divisor-requires c.before
 
 pub returns-then-has_negation : goal.returns-then-has_negation
 returns-then-has_negation c =

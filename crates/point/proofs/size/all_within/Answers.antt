@@ -1,5 +1,4 @@
 -- `point::size::all_within` meets its contract, test by test. Assumes nothing.
-use borrow.Author.Rules.{rules}
 use Rattle.point.proofs.Passed.{tested}
 use Rattle.point.proofs.size.all_within.Goals as goal
 

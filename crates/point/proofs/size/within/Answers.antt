@@ -9,7 +9,6 @@ use lib.IntN.{ℤ, pos, negsuc, neg_ℤ, nat_abs, ◌-ℤ◌, +ℤ_idl}
 use lib.Signed.{le_z}
 use mir.Syntax.{w32, w64}
 use mir.Val.{Fits}
-use borrow.Author.Rules.{rules}
 use Rattle.whole.proofs.Signed.{casts, ranges, fits}
 use Rattle.whole.proofs.SignedTests.{tests, tells}
 use Rattle.point.specs.Paper.{within}

@@ -1,28 +1,22 @@
 -- `row::answer::refused` meets its contract: the text of a refusal is that of its number. Assumes nothing.
-use mathlib.Core.Path.{◌≡◌, sym, ap, ◌∙◌}
-use mathlib.Core.List.{[], ◌∷◌, ◌++◌}
-use Prim.Native.Nat.{ℕ}
-use borrow.Author.Rules.{rules}
+use Rattle.std.proofs.Common.{◌≡◌, ℕ, [], ◌∷◌, ◌++◌, ap, sym, ◌∙◌}
+use Rattle.point.specs.Paper.{number}
+use Rattle.point.specs.declared.paper.Refusal.{Refusal}
+use Rattle.solve.specs.declared.Solved.{Solved}
 use Rattle.row_reader.specs.Reading.{space}
 use Rattle.row.specs.Writing.{line_feed, decimal, row_text}
 use Rattle.row.specs.Texts.{refusal_text}
-use Rattle.row.proofs.Buffer.{wrote_as, wrote_nothing}
-use Rattle.row.proofs.answer.refused.Goals.{After-number}
+use Rattle.row.proofs.Buffer.{wrote_as}
 use Rattle.row.proofs.answer.refused.Goals as goal
 
 text_is :
-    (c : After-number) →
-    refusal_text c.args.solved-1 ≡ 82 ∷ space ∷ decimal c.number.result ++ line_feed ∷ []
+    {solved : Solved} {r : Refusal} {n : ℕ} → solved ≡ Solved.Refused r → n ≡ number r →
+    refusal_text solved ≡ 82 ∷ space ∷ decimal n ++ line_feed ∷ []
 unfolding row_text
-text_is c =
-    ap refusal_text c.solved-1.given.1
-    ∙ ap (λ (n : ℕ). 82 ∷ space ∷ decimal n ++ line_feed ∷ []) (sym c.number.ensures)
+text_is is n = ap refusal_text is ∙ ap (λ (n : ℕ). 82 ∷ space ∷ decimal n ++ line_feed ∷ []) (sym n)
 
-pub returns-in_default : goal.returns-in_default
-returns-in_default c = wrote_as (ap refusal_text c.enum_told-1.given.1) (wrote_nothing _)
+pub numbered-requires : goal.numbered-requires
+numbered-requires c = rw (text_is c.in-Refused.is c.number.ensures) at c.requires
 
-pub shape_of-out : goal.shape_of-out
-shape_of-out c κs = rw (text_is c) at c.requires
-
-returns_2 : goal.returns
-returns_2 c = wrote_as (text_is c.before.before.before) c.numbered.ensures
+pub returns : goal.returns
+returns c = wrote_as (text_is c.in-Refused.is c.number.ensures) c.numbered.ensures

@@ -1,13 +1,7 @@
--- `row::writer::text` meets its contract. The loop's invariant: the bytes passed stand in the buffer, and the rest is as it was. The
--- measure is what is left of the bytes. Assumes nothing.
-use mathlib.Core.Path.{◌≡◌, refl, ap, ◌∙◌}
-use mathlib.Core.List.{List}
-use Prim.Native.Nat.{ℕ, ◌+◌, ◌-◌, ◌≤◌, zero-le}
-use native.Mathlib.Nat.{le_antisymm}
-use native.Mathlib.Omega.{arith}
-use lib.ListN.{length, take, set}
-use lib.Seq.{sets, length-sets, take_all}
-use Rattle.row.proofs.Buffer.{one_more}
+-- What the loop of `row::writer::text` keeps: the bytes passed stand in the buffer, and the rest is as it was. The measure is what is
+-- left of the bytes. Assumes nothing.
+use Rattle.std.proofs.Common.{◌≡◌, ◌-◌, ◌≤◌, length, take}
+use lib.Seq.{sets}
 use Rattle.row.proofs.writer.text.Given as goal
 
 abbrev pub invariant-loop-i : goal.invariant-loop-i

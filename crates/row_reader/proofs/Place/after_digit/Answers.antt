@@ -1,7 +1,6 @@
 -- `row_reader::Place::after_digit` meets its contract: with five digits at most the value is below 100,000, so that one digit more
 -- fits. Assumes nothing.
 use native.Mathlib.Omega.{arith}
-use borrow.Author.Rules.{rules}
 use borrow.Author.Tests.{le-leb, lt-leb}
 use Rattle.row_reader.specs.Steps.{after_digit}
 use Rattle.row_reader.proofs.Steps.{digit_of, value_before_digit}

@@ -1,5 +1,4 @@
 -- `row_reader::Place::after_space` meets its contract: each return is the case that its tests lead to. Assumes nothing.
-use borrow.Author.Rules.{rules}
 use borrow.Author.Tests.{eq-eqb, ne_eqb, le-leb, lt-leb}
 use Rattle.row_reader.specs.Steps.{after_space, fresh}
 use Rattle.row_reader.proofs.Place.after_space.Goals as goal

@@ -1,5 +1,5 @@
 -- `row_reader::Place::end` meets its contract: each return is the case that its tests lead to. Assumes nothing.
-use borrow.Author.Rules.{rules}
+use native.Mathlib.Omega.{arith}
 use borrow.Author.Tests.{eq-eqb, ne_eqb}
 use Rattle.row_reader.specs.Steps.{end_of}
 use Rattle.row_reader.proofs.Place.end.Goals as goal
@@ -18,5 +18,5 @@ returns c =
     simp (
       c.numbers.ensures,
       ne_eqb _ _ c.if-self-eq0.false,
-      eq-eqb _ _ c.if-self-ne-BEFORE_LAST.false,
+      eq-eqb c.args.self.count 5 (omega arith),
     )

@@ -1,6 +1,5 @@
 -- `rows::Cutter::keep` gives the cutter of `keep`: below the limit the byte is set at the row's end, from the limit on nothing
 -- changes. Assumes nothing.
-use borrow.Author.Rules.{rules}
 use borrow.Author.Tests.{lt-ltb, le-ltb}
 use Rattle.rows.specs.Cutter.{keep}
 use Rattle.rows.proofs.Cutter.keep.Goals as goal
