@@ -3,7 +3,6 @@ use mathlib.Core.Path.{◌≡◌, refl, ap}
 use Rattle.point.proofs.Promise.{told_apart, numbered, numbered_number}
 use Rattle.conic.specs.Base.{Judgement, legal, refused, judged}
 use Rattle.conic.specs.declared.base.Judged.{Judged}
-use Rattle.conic.specs.declared.base.Judged.TheVariants as Judged
 
 abbrev to_judged : Judgement → Judged
 to_judged legal = Judged.Legal

@@ -7,7 +7,6 @@ use Rattle.point.specs.declared.Point.{Point}
 use Rattle.conic.specs.Form.{G, Δ}
 use Rattle.conic.specs.declared.conic.Conic.{Conic}
 use Rattle.conic.specs.declared.base.Judged.{Judged}
-use Rattle.conic.specs.declared.base.Judged.TheVariants as Judged
 
 -- each coefficient is within the limit
 unfoldable pub in_range : Conic → Bool

@@ -16,7 +16,6 @@ use Rattle.number.proofs.Least.{T-of-true, not_true_of_false}
 use Rattle.number.proofs.Prime.{prime_divides_product}
 use Rattle.legendre.specs.Outcome.{outcome_of}
 use Rattle.legendre.specs.declared.outcome.Outcome.{Outcome}
-use Rattle.legendre.specs.declared.outcome.Outcome.TheVariants as Outcome
 use Rattle.point.specs.Paper.{Verdict, point, none_by_sign_lem, none_by_prime, refusal, point_limit, is_zero}
 use Rattle.point.specs.Sizes.{PointWithin}
 use Rattle.point.specs.declared.Point.{Point}

@@ -14,7 +14,6 @@ use Rattle.legendre.specs.Equation.{BoxSolution}
 use Rattle.legendre.specs.Outcome.{outcome_of}
 use Rattle.legendre.specs.declared.outcome.Triple.{Triple}
 use Rattle.legendre.specs.declared.outcome.Outcome.{Outcome}
-use Rattle.legendre.specs.declared.outcome.Outcome.TheVariants as Outcome
 use Rattle.legendre.proofs.Answer as Legendre
 use Rattle.point.specs.Normal.{or_else, leading, normal}
 use Rattle.point.specs.Paper.{point_limit, Verdict, point, none_by_sign_lem, none_by_prime, refusal, is_zero}

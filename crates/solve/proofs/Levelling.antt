@@ -1,4 +1,4 @@
--- From the conic to the levelled equation and back: 4aD·G = D-as-A² + B² + 4aΔ·z², with A the derivative by x and B = Dy + kz, so a
+-- From the conic to the levelled equation and back: 4aD·G = D·A² + B² + 4aΔ·z², with A the derivative by x and B = Dy + kz, so a
 -- zero of G gives a solution, and a solution a zero of G, with z ≠ 0 where −D is no square. Assumes nothing.
 use mathlib.Core.Path.{◌≡◌, refl, sym, ap, subst, subst₂, ◌∙◌}
 use mathlib.Core.Logic.{◌≢◌}

@@ -8,7 +8,6 @@ use Rattle.solve.specs.Solve.{SolvePromise}
 use Rattle.solve.specs.declared.Answer.TheVariants as Answer
 use Rattle.solve.specs.declared.Reason.TheVariants as Reason
 use Rattle.solve.specs.declared.Solved.{Solved}
-use Rattle.solve.specs.declared.Solved.TheVariants as Solved
 
 -- ---- answers
 

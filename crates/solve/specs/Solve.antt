@@ -5,7 +5,6 @@ use Rattle.std.specs.Int.Signed.{non_neg}
 use Rattle.number.specs.Square.{root_of, is_square}
 use Rattle.legendre.specs.Outcome.{outcome_of}
 use Rattle.legendre.specs.declared.outcome.Outcome.{Outcome}
-use Rattle.legendre.specs.declared.outcome.Outcome.TheVariants as Outcome
 use Rattle.point.specs.Normal.{normal}
 use Rattle.point.specs.Paper.{Verdict, point, none_by_sign_lem, none_by_prime, refusal, is_zero}
 use Rattle.point.specs.declared.Point.{Point}

@@ -3,26 +3,25 @@
 use mathlib.Core.Path.{◌≡◌, sym, ap, subst, ◌∙◌}
 use Prim.Native.Nat.{ℕ}
 use mir.Syntax.{w64}
-use mir.Val.{to_z, of_z}
+use mir.Val.{SFits, to_z, of_z}
 use mir.Facts.{to_z-of_z}
-use borrow.Author.Rules.{rules, sfits_of}
+use borrow.Author.Rules.{sfits_of}
 use Rattle.legendre.specs.Outcome.{outcome_of}
 use Rattle.legendre.specs.Reach.{Reach}
 use Rattle.legendre.specs.declared.outcome.Triple.{Triple}
 use Rattle.legendre.specs.declared.outcome.Outcome.{Outcome}
-use Rattle.legendre.specs.declared.outcome.Outcome.TheVariants as Outcome
 use Rattle.point.specs.Paper.{point, none_by_sign_lem, none_by_prime}
 use Rattle.conic.specs.Sizes.{InLimit}
 use Rattle.conic.specs.declared.conic.Conic.{Conic}
 use Rattle.conic.proofs.Sizes.{in_limit}
 use Rattle.solve.specs.Level.{level_of, carried_back}
+use Rattle.solve.specs.Demand2.{NonDegenerate, SquareDiscriminant}
 use Rattle.solve.specs.Sizes.{CarriedFrom}
 use Rattle.solve.specs.Solve.{outcome_carried, solve_levelled}
 use Rattle.solve.specs.declared.level.Level.{Level}
 use Rattle.solve.proofs.Carrying.{can_level, carried_from}
 use Rattle.solve.proofs.Levelling.{Levellable, levellable}
 use Rattle.solve.proofs.Reach.{level_in_reach, chosen_in_box}
-use Rattle.solve.proofs.solve_levelled.Goals.{After-of-v, After-outcome-found, Start}
 use Rattle.solve.proofs.solve_levelled.Goals as goal
 
 abbrev own_outcome : Conic → Outcome
@@ -42,62 +41,61 @@ module _ (h : Conic) where
   solution_carried e = ap (outcome_carried h) e
 
 -- p, g and q are handed over one by one
-handed_over :
-    (c : After-of-v) →
-    record {
-      p = to_z w64 (of_z w64 c.of-v.result.p);
-      g = to_z w64 (of_z w64 c.of-v.result.g);
-      q = to_z w64 (of_z w64 c.of-v.result.q);
-      s = c.of-v.result.s;
-      t = c.of-v.result.t;
-    }
-    ≡ level_of c.args.h
-handed_over c =
-    (λ i. record {
-      p = to_z-of_z {w = w64} {z = c.of-v.result.p} (search sfits_of) i;
-      g = to_z-of_z {w = w64} {z = c.of-v.result.g} (search sfits_of) i;
-      q = to_z-of_z {w = w64} {z = c.of-v.result.q} (search sfits_of) i;
-      s = c.of-v.result.s;
-      t = c.of-v.result.t;
-    })
-    ∙ c.of-v.ensures
+module _ (h : Conic) {v : Level} (v_is : v ≡ level_of h) (p_fits : SFits w64 v.p) (g_fits : SFits w64 v.g) (q_fits : SFits w64 v.q) where
+  abbrev given : Level
+  given = record { p = to_z w64 (of_z w64 v.p); g = to_z w64 (of_z w64 v.g); q = to_z w64 (of_z w64 v.q); s = v.s; t = v.t }
 
-outcome_is : (c : After-outcome-found) → c.outcome-found.result ≡ own_outcome c.args.h
-outcome_is c = c.outcome-found.ensures ∙ ap (λ (v : Level). outcome_of v.p v.g v.q) (handed_over c.before.before.before.before)
+  handed_over : given ≡ level_of h
+  handed_over =
+      (λ i. record {
+        p = to_z-of_z {w = w64} p_fits i;
+        g = to_z-of_z {w = w64} g_fits i;
+        q = to_z-of_z {w = w64} q_fits i;
+        s = v.s;
+        t = v.t;
+      })
+      ∙ v_is
 
-small : (c : Start) → InLimit c.args.h
-small c = in_limit c.args.h c.requires.0.in_range_lem
+  outcome_is : outcome_of given.p given.g given.q ≡ own_outcome h
+  outcome_is = ap (λ (v : Level). outcome_of v.p v.g v.q) handed_over
 
-able : (c : Start) → Levellable c.args.h
-able c = levellable c.requires.0.not_zero c.requires.1
+module _ (h : Conic) (n : NonDegenerate h × (¬ SquareDiscriminant h)) where
+  small : InLimit h
+  small = in_limit h n.0.in_range_lem
+
+  able : Levellable h
+  able = levellable n.0.not_zero n.1
 
 pub of-v-requires : goal.of-v-requires
-of-v-requires c = can_level (small c) (able c)
+of-v-requires c = can_level (small _ c.requires) (able _ c.requires)
 
 pub outcome-found-requires : goal.outcome-found-requires
 outcome-found-requires c =
-    let after = c.before.before.before in
-    subst (λ (v : Level). Reach v.p v.g v.q) (sym (handed_over after))
-    (level_in_reach (able after.before) (small after.before))
+    subst (λ (v : Level). Reach v.p v.g v.q)
+    (sym (handed_over c.args.h c.of-v.ensures (search sfits_of) (search sfits_of) (search sfits_of)))
+    (level_in_reach (able _ c.requires) (small _ c.requires))
 
 pub carried_back-requires : goal.carried_back-requires
 carried_back-requires c =
-    let after = c.before.before.before.before.before.before.before in
-    let m = c.found-in-Solution-1.given.0.0 in
-    let box = chosen_in_box (able after.before) m (sym (outcome_is c.before.before.before) ∙ c.found-in-Solution-1.given.1) in
-    subst (λ (v : Level). CarriedFrom after.args.h v m) (sym after.of-v.ensures)
-    (carried_from m (small after.before) (able after.before) box)
+    let m = c.in-Solution.solution in
+    let is_own = outcome_is c.args.h c.of-v.ensures (search sfits_of) (search sfits_of) (search sfits_of) in
+    subst (λ (v : Level). CarriedFrom c.args.h v m) (sym c.of-v.ensures)
+    (carried_from m (small _ c.requires) (able _ c.requires)
+    (chosen_in_box (able _ c.requires) m (sym (c.in-Solution.ensures ∙ is_own))))
 
 pub returns-in-Sign : goal.returns-in-Sign
-returns-in-Sign c = sign_carried _ (sym c.enum_told-1.given.1 ∙ outcome_is c.before.before)
+returns-in-Sign c =
+    let is_own = outcome_is c.args.h c.of-v.ensures (search sfits_of) (search sfits_of) (search sfits_of) in
+    sign_carried _ (c.in-Sign.ensures ∙ is_own)
 
 pub returns-in-Prime : goal.returns-in-Prime
-returns-in-Prime c = prime_carried _ (sym c.found-1.given.1 ∙ outcome_is c.before.before.before)
+returns-in-Prime c =
+    let is_own = outcome_is c.args.h c.of-v.ensures (search sfits_of) (search sfits_of) (search sfits_of) in
+    prime_carried _ (c.in-Prime.ensures ∙ is_own)
 
 pub returns-in-Solution : goal.returns-in-Solution
 returns-in-Solution c =
-    let told = c.before in
-    let after = told.before.before.before.before.before.before.before in
-    let h = after.args.h in
-    ap point (c.carried_back.ensures ∙ ap (λ (v : Level). carried_back h v told.found-in-Solution-1.given.0.0) after.of-v.ensures)
-    ∙ solution_carried h (sym told.found-in-Solution-1.given.1 ∙ outcome_is told.before.before.before)
+    let h = c.args.h in
+    let is_own = outcome_is h c.of-v.ensures (search sfits_of) (search sfits_of) (search sfits_of) in
+    ap point (c.carried_back.ensures ∙ ap (λ (v : Level). carried_back h v c.in-Solution.solution) c.of-v.ensures)
+    ∙ solution_carried h (c.in-Solution.ensures ∙ is_own)

@@ -1,8 +1,7 @@
 -- `conic::base::judge` meets its contract: each refusal is given where the definition's tests give it. Assumes nothing.
 use mathlib.Core.Path.{◌≡◌, sym, ap, ◌∙◌}
 use mathlib.Core.Bool.{true, false}
-use borrow.Author.Rules.{rules, sfits_of}
-use borrow.Author.Tests.{not-true, not-false}
+use borrow.Author.Rules.{sfits_of}
 use Rattle.number.proofs.Least.{T-of-true}
 use Rattle.point.specs.Legal.{is_base}
 use Rattle.point.specs.Paper.{is_zero}
@@ -18,16 +17,16 @@ use Rattle.conic.proofs.base.judge.Goals as goal
 -- ---- what the tests said
 
 ranged : (c : Else-not-in_range) → in_range c.args.h ≡ true
-ranged c = sym c.in_range_lem.ensures ∙ not-false _ c.if-not-in_range.false
+ranged c = sym c.in_range.ensures ∙ c.if-not-in_range.false
 
-degenerate_tested : (c : After-is_zero) → c.is_zero_lem.result ≡ is_zero (Δ c.args.h)
-degenerate_tested c = passed is_zero (search sfits_of) c.is_zero_lem.ensures ∙ ap is_zero c.determinant.ensures
+degenerate_tested : (c : After-is_zero) → c.is_zero.result ≡ is_zero (Δ c.args.h)
+degenerate_tested c = passed is_zero (search sfits_of) c.is_zero.ensures ∙ ap is_zero c.determinant.ensures
 
 curved : (c : Else-is_zero) → is_zero (Δ c.args.h) ≡ false
 curved c = sym (degenerate_tested c.before) ∙ c.if-is_zero.false
 
 based : (c : Else-not-is_base) → is_base c.args.base ≡ true
-based c = sym c.is_base.ensures ∙ not-false _ c.if-not-is_base.false
+based c = sym c.is_base.ensures ∙ c.if-not-is_base.false
 
 on_tested :
     (c : After-is_zero-2) →
@@ -35,10 +34,10 @@ on_tested :
     c.is_zero-2.result ≡ is_zero (G start.args.h start.args.base)
 on_tested c = passed is_zero (search sfits_of) c.is_zero-2.ensures ∙ ap is_zero c.at.ensures
 
--- ---- the needs
+-- ---- the goals
 
 pub returns-then-not-in_range : goal.returns-then-not-in_range
-returns-then-not-in_range c = judged_range _ _ (sym c.in_range_lem.ensures ∙ not-true _ c.if-not-in_range.true)
+returns-then-not-in_range c = judged_range _ _ (sym c.in_range.ensures ∙ c.if-not-in_range.true)
 
 pub determinant-requires : goal.determinant-requires
 determinant-requires c = in_limit c.args.h (T-of-true (ranged c))
@@ -49,11 +48,11 @@ returns-then-is_zero c = judged_degenerate _ _ (ranged c.before.before.before) (
 pub returns-then-not-is_base : goal.returns-then-not-is_base
 returns-then-not-is_base c =
     let curve = c.before.before in
-    judged_base _ _ (ranged curve.before.before.before) (curved curve) (sym c.is_base.ensures ∙ not-true _ c.if-not-is_base.true)
+    judged_base _ _ (ranged curve.before.before.before) (curved curve) (sym c.is_base.ensures ∙ c.if-not-is_base.true)
 
 pub at-requires : goal.at-requires
-at-requires c κs =
-    record { conic = determinant-requires c.before.before.before.before.before κs; point = base_within _ (based c) }
+at-requires c =
+    record { conic = determinant-requires c.before.before.before.before.before; point = base_within _ (based c) }
 
 pub returns-then-is_zero-2 : goal.returns-then-is_zero-2
 returns-then-is_zero-2 c =

@@ -2,7 +2,6 @@
 use mathlib.Core.Path.{◌≡◌, refl, ◌∙◌}
 use lib.IntN.{pos, ◌+ℤ◌, ◌-ℤ◌, ◌*ℤ◌}
 use mir.Syntax.{w64}
-use borrow.Author.Rules.{rules}
 use Rattle.whole.proofs.Signed.{sizes, fits, reads}
 use Rattle.point.specs.declared.Point.{Point}
 use Rattle.point.proofs.Vector.{same_point}

@@ -1,6 +1,5 @@
 -- `solve::trial::from_infinity` meets its contract, call by call. Assumes nothing.
 use mathlib.Core.Path.{◌≡◌, sym, ap, subst, ◌∙◌}
-use borrow.Author.Rules.{rules}
 use Rattle.point.specs.Normal.{normal}
 use Rattle.point.specs.declared.Point.{Point}
 use Rattle.conic.specs.Sizes.{ConicAt, ConicAlong}

@@ -8,7 +8,6 @@ use lib.IntN.{ℤ, pos, negsuc, neg_ℤ, nat_abs, ◌-ℤ◌, +ℤ_idl}
 use lib.Signed.{le_z}
 use mir.Syntax.{w64}
 use mir.Val.{to_z, of_z}
-use borrow.Author.Rules.{rules}
 use borrow.Author.Tests.{le-leb}
 use Rattle.whole.proofs.Signed.{sizes, fits, reads}
 use Rattle.whole.proofs.SignedTests.{tests, Tested, tells}

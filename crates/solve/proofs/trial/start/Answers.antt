@@ -5,7 +5,7 @@ use Prim.Native.Nat.{◌≤◌}
 use lib.IntN.{pos, nat_abs, ◌-ℤ◌, ◌*ℤ◌}
 use mir.Syntax.{w64}
 use mir.Facts.{to_z-of_z}
-use borrow.Author.Rules.{rules, sfits_of}
+use borrow.Author.Rules.{sfits_of}
 use Rattle.whole.proofs.Signed.{casts, fits, reads}
 use Rattle.number.specs.Square.{root_of}
 use Rattle.point.specs.Paper.{is_zero}
@@ -17,7 +17,7 @@ use Rattle.conic.specs.declared.conic.Conic.{Conic}
 use Rattle.solve.specs.Sizes.{limit_W'}
 use Rattle.solve.specs.Solve.{start_at_infinity}
 use Rattle.solve.proofs.Infinity.{root_small}
-use Rattle.solve.proofs.trial.start.Goals.{After-is_zero, After-root-root}
+use Rattle.solve.proofs.trial.start.Goals.{After-root-root}
 use Rattle.solve.proofs.trial.start.Goals as goal
 
 module _ (h : Conic) where
@@ -35,21 +35,16 @@ module _ (h : Conic) where
   unfolding start_at_infinity
   on_asymptote e = ap (λ b. cond b axis asymptote) (sym e)
 
-tested : (c : After-is_zero) → c.is_zero_lem.result ≡ is_zero c.args.h.a
-tested c = passed is_zero (search sfits_of) c.is_zero_lem.ensures
-
 root_is : (c : After-root-root) → c.root-root.result ≡ root_of (nat_abs (D c.args.h))
 root_is c =
     c.root-root.ensures
-    ∙ ap root_of (c.magnitude.ensures ∙ ap nat_abs (to_z-of_z (search sfits_of) ∙ c.discriminant.ensures))
+    ∙ ap root_of (c.magnitude.ensures ∙ ap nat_abs (to_z-of_z {w = w64} (search sfits_of) ∙ c.discriminant.ensures))
 
 root_at_most : (c : After-root-root) → c.root-root.result ≤ limit_W'
-root_at_most c =
-    let start = c.before.before.before.before.before.before.before in
-    rw (root_is c) (root_small start.args.h start.requires)
+root_at_most c = rw (root_is c) (root_small c.args.h c.requires)
 
 pub returns-then-is_zero : goal.returns-then-is_zero
-returns-then-is_zero c = on_axis _ (sym (tested c.before) ∙ c.if-is_zero.true)
+returns-then-is_zero c = on_axis _ (sym (passed is_zero (search sfits_of) c.is_zero.ensures) ∙ c.if-is_zero.true)
 
 pub overflow_cast-root : goal.overflow_cast-root
 overflow_cast-root c = let small = root_at_most c in fits w64 (search casts depth 60 fits 9999) tt
@@ -63,9 +58,8 @@ overflow_mul-result c = fits w64 (search casts depth 60 fits 9999) tt
 pub returns : goal.returns
 returns c =
     let small = root_at_most c in
-    let start = c.before.before.before.before.before.before.before in
     same_point
-    (reads (search casts depth 60 fits 9999) tt (ap (λ n. pos n -ℤ start.args.h.b) (root_is c)))
+    (reads (search casts depth 60 fits 9999) tt (ap (λ n. pos n -ℤ c.args.h.b) (root_is c)))
     (reads (search casts depth 60 fits 9999) tt refl)
     refl
-    ∙ on_asymptote start.args.h (sym (tested c.before.before.before.before) ∙ c.if-is_zero.false)
+    ∙ on_asymptote c.args.h (sym (passed is_zero (search sfits_of) c.is_zero.ensures) ∙ c.if-is_zero.false)

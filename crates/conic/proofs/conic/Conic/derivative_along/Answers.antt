@@ -1,6 +1,5 @@
 -- `conic::conic::Conic::derivative_along` meets its contract: by the sizes of the numbers each step fits. Assumes nothing.
 use mathlib.Core.Path.{refl}
-use borrow.Author.Rules.{rules}
 use Rattle.whole.proofs.Signed.{sizes, reads, bounds}
 use Rattle.point.specs.Paper.{direction_limit}
 use Rattle.conic.specs.Form.{L}

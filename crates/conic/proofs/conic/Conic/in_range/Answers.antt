@@ -1,7 +1,6 @@
 -- `conic::conic::Conic::in_range` meets its contract. Assumes nothing.
 use mathlib.Core.Path.{◌≡◌, refl, ap, ◌∙◌}
 use mathlib.Core.Bool.{Bool, true, false, ◌&&◌}
-use borrow.Author.Rules.{rules}
 use Rattle.point.specs.Paper.{within, coefficient_limit}
 use Rattle.point.proofs.Passed.{tested}
 use Rattle.conic.specs.Base.{in_range}

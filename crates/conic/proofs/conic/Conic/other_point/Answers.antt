@@ -3,7 +3,7 @@
 use mathlib.Core.Path.{ap, ◌∙◌}
 use mir.Syntax.{w64}
 use mir.Val.{SFits}
-use borrow.Author.Rules.{rules, sfits_of}
+use borrow.Author.Rules.{sfits_of}
 use Rattle.point.specs.Normal.{normal_within}
 use Rattle.point.proofs.Limits.{normal_passed, normal_within_is_normal}
 use Rattle.conic.proofs.Bounds.{drawn_fits}

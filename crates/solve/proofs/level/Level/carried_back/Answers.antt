@@ -2,7 +2,7 @@
 -- normal form is the normal form. Assumes nothing.
 use mathlib.Core.Path.{◌≡◌, sym, ap, ◌∙◌, subst}
 use lib.Dec.{lit≤}
-use borrow.Author.Rules.{rules, sfits_of}
+use borrow.Author.Rules.{sfits_of}
 use Rattle.legendre.specs.declared.outcome.Triple.{Triple}
 use Rattle.point.specs.Normal.{normal_within}
 use Rattle.point.specs.declared.Point.{Point}
@@ -26,9 +26,6 @@ from_primed-p-requires c =
 
 pub returns : goal.returns
 returns c =
-    let told = c.struct_told-3-1.given in
-    let from = c.before.before.before.before in
-    let start = from.before.before in
-    back start.requires
-    (from.from_primed-p.ensures ∙ ap (from_primed start.args.h) from.primed.ensures)
-    (normal_passed from.from_primed-p.result (sfits_of told.0.1) (sfits_of told.1.0.1) (sfits_of told.1.1.0.1) c.normal.ensures)
+    back c.requires
+    (c.from_primed-p.ensures ∙ ap (from_primed c.args.h) c.primed.ensures)
+    (normal_passed c.from_primed-p.result (search sfits_of) (search sfits_of) (search sfits_of) c.normal.ensures)

@@ -6,7 +6,6 @@ use native.Mathlib.Nat.{le_trans, le_of_dvd, pos_of_ne-zero, pos_of_dvd_of_pos}
 use lib.IntN.{ℤ, pos, nat_abs}
 use lib.Signed.{quot_z}
 use mir.Syntax.{w64}
-use borrow.Author.Rules.{rules}
 use Rattle.whole.proofs.Signed.{casts, fits, reads}
 use Rattle.whole.proofs.Size.{nat_abs_zero}
 use Rattle.number.specs.Gcd.{gcd_of}

@@ -5,9 +5,8 @@ use native.Mathlib.Nat.{le_trans, le-mul_of_pos_right, zero-lt-suc}
 use lib.Dec.{lit≤}
 use lib.IntN.{ℤ, pos, nat_abs, ◌*ℤ◌}
 use mir.Syntax.{w64}
-use mir.Val.{to_z, of_z}
 use mir.Facts.{to_z-of_z}
-use borrow.Author.Rules.{rules, sfits_of}
+use borrow.Author.Rules.{sfits_of}
 use Rattle.whole.proofs.Signed.{sizes, fits, reads}
 use Rattle.whole.proofs.Size.{quotient_size}
 use Rattle.number.specs.Split.{split_of}
@@ -22,7 +21,6 @@ use Rattle.conic.proofs.Bounds.{formSizes}
 use Rattle.conic.proofs.Sizes.{D-size, aΔ_size}
 use Rattle.solve.specs.Level.{level_from, level_of}
 use Rattle.solve.specs.Sizes.{CanLevel, PartsWithin}
-use Rattle.solve.proofs.level.Level.of.Goals.{After-split-e, After-struct_told-3-1}
 use Rattle.solve.proofs.level.Level.of.Goals as goal
 
 free_at_most : (n : ℤ) → nat_abs (free_part n) ≤ nat_abs n
@@ -60,40 +58,24 @@ module _ (h : Conic) {d e : Parts} (d_is : d ≡ split_of (D h)) (e_is : e ≡ s
 pub overflow_mul-h : goal.overflow_mul-h
 overflow_mul-h c = fits w64 (search (formSizes, sizes) depth 60 fits 9999) tt
 
--- the two splits
-module _ (c : After-split-e) where
-  abbrev h : Conic
-  h = c.args.h
-
-  d_is : c.split-d.result ≡ split_of (D h)
-  d_is = c.split-d.ensures ∙ ap split_of (reads (search (formSizes, sizes) depth 60 fits 9999) tt refl)
-
-  e_is : c.split-e.result ≡ split_of (h.a *ℤ Δ h)
-  e_is = c.split-e.ensures ∙ ap split_of (reads (search (formSizes, sizes) depth 60 fits 9999) tt refl)
-
--- as they are handed over
-module _ (c : After-struct_told-3-1) where
-  abbrev d : Parts
-  d = c.split-d.result
-
-  abbrev e : Parts
-  e = c.split-e.result
-
-  d_kept : to_z w64 (of_z w64 d.free) ≡ d.free
-  d_kept = to_z-of_z (search sfits_of)
-
-  e_kept : to_z w64 (of_z w64 e.free) ≡ e.free
-  e_kept = to_z-of_z (search sfits_of)
-
 pub from_parts-requires : goal.from_parts-requires
 from_parts-requires c =
-    let both = c.before.before in
-    rw (d_kept c, e_kept c) (parts_within (h both) (d_is both) (e_is both) both.requires)
+    let d_is : c.split-d.result ≡ split_of (D c.args.h) =
+    c.split-d.ensures ∙ ap split_of (reads (search (formSizes, sizes) depth 60 fits 9999) tt refl) in
+    let e_is : c.split-e.result ≡ split_of (c.args.h.a *ℤ Δ c.args.h) =
+    c.split-e.ensures ∙ ap split_of (reads (search (formSizes, sizes) depth 60 fits 9999) tt refl) in
+    let d_kept = to_z-of_z {w = w64} {z = c.split-d.result.free} (search sfits_of) in
+    let e_kept = to_z-of_z {w = w64} {z = c.split-e.result.free} (search sfits_of) in
+    rw (d_kept, e_kept) (parts_within c.args.h d_is e_is c.requires)
 
 pub returns : goal.returns
 returns c =
-    let told = c.before in
-    let both = told.before.before in
+    let d_is : c.split-d.result ≡ split_of (D c.args.h) =
+    c.split-d.ensures ∙ ap split_of (reads (search (formSizes, sizes) depth 60 fits 9999) tt refl) in
+    let e_is : c.split-e.result ≡ split_of (c.args.h.a *ℤ Δ c.args.h) =
+    c.split-e.ensures ∙ ap split_of (reads (search (formSizes, sizes) depth 60 fits 9999) tt refl) in
+    let d_kept = to_z-of_z {w = w64} {z = c.split-d.result.free} (search sfits_of) in
+    let e_kept = to_z-of_z {w = w64} {z = c.split-e.result.free} (search sfits_of) in
     c.from_parts.ensures
-    ∙ ap₂ (λ (m n : ℤ). level_from m (d told).square n (e told).square) (d_kept told) (e_kept told)
-    ∙ level_is (h both) (d_is both) (e_is both)
+    ∙ ap₂ (λ (m n : ℤ). level_from m c.split-d.result.square n c.split-e.result.square) d_kept e_kept
+    ∙ level_is c.args.h d_is e_is

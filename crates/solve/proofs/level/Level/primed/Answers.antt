@@ -18,7 +18,6 @@ use Rattle.point.proofs.Vector.{same_point}
 use Rattle.solve.specs.Level.{primed}
 use Rattle.solve.specs.Sizes.{Carries, limit_X', limit_Y', limit_W'}
 use Rattle.solve.specs.declared.level.Level.{Level}
-use Rattle.solve.proofs.level.Level.primed.Goals.{After-struct_told-3-1}
 use Rattle.solve.proofs.level.Level.primed.Goals as goal
 
 in_threes : (s t g y : ℤ) → s *ℤ (t *ℤ (g *ℤ y)) ≡ s *ℤ t *ℤ g *ℤ y
@@ -105,41 +104,29 @@ module _ {v : Level} {m : Triple} (h : Carries v m) (s_fits : SFits w64 v.s) (t_
       (reads (kept w64 stg_y_sized) tt (in_threes v.s v.t v.g (pos m.y)))
       (reads (kept w64 s_w_sized) tt refl)
 
-s_fits : (c : After-struct_told-3-1) → SFits w64 c.args.self.s
-s_fits c = search sfits_of
-
-t_fits : (c : After-struct_told-3-1) → SFits w64 c.args.self.t
-t_fits c = search sfits_of
-
-g_fits : (c : After-struct_told-3-1) → SFits w64 c.args.self.g
-g_fits c = search sfits_of
-
-carries : (c : After-struct_told-3-1) → Carries c.args.self c.args.m
-carries c = c.requires
-
 pub overflow_cast-result : goal.overflow_cast-result
-overflow_cast-result c = let small = x_small (carries c) in fits w64 (search casts) tt
+overflow_cast-result c = let small = x_small c.requires in fits w64 (search casts) tt
 
 pub overflow_mul-result : goal.overflow_mul-result
-overflow_mul-result c = fits w64 (t_x_sized (carries c) (s_fits c) (t_fits c) (g_fits c)) tt
+overflow_mul-result c = fits w64 (t_x_sized c.requires (search sfits_of) (search sfits_of) (search sfits_of)) tt
 
 pub overflow_cast-result-2 : goal.overflow_cast-result-2
-overflow_cast-result-2 c = let small = y_small (carries c) in fits w64 (search casts) tt
+overflow_cast-result-2 c = let small = y_small c.requires in fits w64 (search casts) tt
 
 pub overflow_mul-result-2 : goal.overflow_mul-result-2
-overflow_mul-result-2 c = fits w64 (g_y_sized (carries c) (s_fits c) (t_fits c) (g_fits c)) tt
+overflow_mul-result-2 c = fits w64 (g_y_sized c.requires (search sfits_of) (search sfits_of) (search sfits_of)) tt
 
 pub overflow_mul-result-3 : goal.overflow_mul-result-3
-overflow_mul-result-3 c = fits w64 (tg_y_sized (carries c) (s_fits c) (t_fits c) (g_fits c)) tt
+overflow_mul-result-3 c = fits w64 (tg_y_sized c.requires (search sfits_of) (search sfits_of) (search sfits_of)) tt
 
 pub overflow_mul-result-4 : goal.overflow_mul-result-4
-overflow_mul-result-4 c = fits w64 (stg_y_sized (carries c) (s_fits c) (t_fits c) (g_fits c)) tt
+overflow_mul-result-4 c = fits w64 (stg_y_sized c.requires (search sfits_of) (search sfits_of) (search sfits_of)) tt
 
 pub overflow_cast-result-3 : goal.overflow_cast-result-3
-overflow_cast-result-3 c = let small = w_small (carries c) in fits w64 (search casts) tt
+overflow_cast-result-3 c = let small = w_small c.requires in fits w64 (search casts) tt
 
 pub overflow_mul-result-5 : goal.overflow_mul-result-5
-overflow_mul-result-5 c = fits w64 (s_w_sized (carries c) (s_fits c) (t_fits c) (g_fits c)) tt
+overflow_mul-result-5 c = fits w64 (s_w_sized c.requires (search sfits_of) (search sfits_of) (search sfits_of)) tt
 
 pub returns : goal.returns
-returns c = is_primed (carries c) (s_fits c) (t_fits c) (g_fits c)
+returns c = is_primed c.requires (search sfits_of) (search sfits_of) (search sfits_of)
