@@ -25,7 +25,12 @@ DECLARED = [
 ]
 RUST_COMMENT = re.compile(r"//[^\n]*")
 LIBRARY = re.compile(r"(?m)^(?:pub )?use ((?!Rattle\.(?:OWN)\.)[\w.+·-]+)\.\{([^}]*)\}")
-OTHER = {"normalDirection-proper": "normal_direction_is_proper", "to-z": "to-z"}
+OTHER = {
+    "normalDirection-proper": "normal_direction_is_proper",
+    "to-z": "to-z",
+    "none-by-sign": "none_by_sign",
+    "in-range": "in_range",
+}
 HERE = {
     "rows/proofs/Held.antt": {"last_row": "last_row_lem"},
     "rows/proofs/Holds.antt": {"last_row": "last_row_lem"},

@@ -6,7 +6,7 @@ use mathlib.Core.Path.{◌≡◌, refl, sym, ap, subst, ◌∙◌}
 use Prim.Native.Nat.{ℕ, zero, suc, ◌+◌, ◌≤◌}
 use lib.Dec.{lit≤}
 use native.Mathlib.Omega.{arith}
-use Rattle.point.specs.Paper.{Verdict, point, none_by_sign_lem, none_by_prime, refusal}
+use Rattle.point.specs.Paper.{Verdict, point, none_by_sign, none_by_prime, refusal}
 use Rattle.book.specs.Layout.{body_length, kind_of}
 use Rattle.book.specs.Reader.{is_right, ReaderAnswer, content_of}
 
@@ -29,13 +29,13 @@ length_at_least (suc (suc (suc (suc (suc n))))) h k = absurd (omega arith)
 
 pub kind_at_most : (v : Verdict) → kind_of v ≤ 4
 kind_at_most (point p) = lit≤ tt
-kind_at_most none_by_sign_lem = lit≤ tt
+kind_at_most none_by_sign = lit≤ tt
 kind_at_most (none_by_prime l) = lit≤ tt
 kind_at_most (refusal n) = lit≤ tt
 
 pub kind_at_least : (v : Verdict) → 1 ≤ kind_of v
 kind_at_least (point p) = lit≤ tt
-kind_at_least none_by_sign_lem = lit≤ tt
+kind_at_least none_by_sign = lit≤ tt
 kind_at_least (none_by_prime l) = lit≤ tt
 kind_at_least (refusal n) = lit≤ tt
 

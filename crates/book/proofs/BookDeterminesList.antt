@@ -3,7 +3,7 @@ use mathlib.Core.Path.{◌≡◌, refl, sym, ap, ◌∙◌}
 use native.Mathlib.Omega.{arith}
 use lib.ListN.{length, get_or}
 use lib.Seq.{ext_get_or}
-use Rattle.point.specs.Paper.{Verdict, point, none_by_sign_lem, none_by_prime, refusal}
+use Rattle.point.specs.Paper.{Verdict, point, none_by_sign, none_by_prime, refusal}
 use Rattle.conic.specs.declared.conic.Conic.{Conic}
 use Rattle.solve.specs.Solve.{solve_of}
 use Rattle.book.specs.Layout.{count_of}
@@ -23,7 +23,7 @@ conic_of (no_entry n) = blank
 own_conic : (h : Conic) (v : Verdict) → conic_of (with_verdict h v) ≡ h
 unfolding with_verdict
 own_conic h (point p) = refl
-own_conic h none_by_sign_lem = refl
+own_conic h none_by_sign = refl
 own_conic h (none_by_prime l) = refl
 own_conic h (refusal n) = refl
 

@@ -4,7 +4,7 @@ use mathlib.Core.Path.{◌≡◌, refl, ap, ◌∙◌}
 use Prim.Native.Nat.{ℕ, ◌+◌, ◌*◌, ◌/◌, ◌≤◌}
 use native.Mathlib.Omega.{arith}
 use lib.ListN.{length, length-append}
-use Rattle.point.specs.Paper.{Verdict, point, none_by_sign_lem, none_by_prime, refusal}
+use Rattle.point.specs.Paper.{Verdict, point, none_by_sign, none_by_prime, refusal}
 use Rattle.conic.specs.declared.conic.Conic.{Conic}
 use Rattle.solve.specs.Solve.{solve_of}
 use Rattle.book.specs.Bytes.{bytes}
@@ -16,7 +16,7 @@ use Rattle.book.proofs.Listed.{conics_after, after_all_lem, after_more, after_no
 pub length_body : (h : Conic) (v : Verdict) → length (coefficients h ++ added v) ≡ body_length (kind_of v)
 unfolding coefficients bytes
 length_body h (point p) = refl
-length_body h none_by_sign_lem = refl
+length_body h none_by_sign = refl
 length_body h (none_by_prime l) = refl
 length_body h (refusal n) = refl
 
@@ -24,7 +24,7 @@ length_body h (refusal n) = refl
 pub length_added : (v : Verdict) → 6 + length (added v) ≡ body_length (kind_of v)
 unfolding bytes
 length_added (point p) = refl
-length_added none_by_sign_lem = refl
+length_added none_by_sign = refl
 length_added (none_by_prime l) = refl
 length_added (refusal n) = refl
 

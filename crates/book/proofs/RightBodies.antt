@@ -9,7 +9,7 @@ use lib.IntN.{pos}
 use borrow.Author.Tests.{eqb-true, eq-eqb, not-true}
 use Rattle.number.proofs.Least.{true_of_T, T-of-true, not_true_of_false}
 use Rattle.point.specs.Legal.{is_base}
-use Rattle.point.specs.Paper.{Verdict, point, none_by_sign_lem, none_by_prime, refusal, is_zero}
+use Rattle.point.specs.Paper.{Verdict, point, none_by_sign, none_by_prime, refusal, is_zero}
 use Rattle.point.specs.declared.Point.{Point}
 use Rattle.point.proofs.Tests.{is_zero_iff, is_zero_not}
 use Rattle.conic.specs.Form.{G, Δ}
@@ -22,15 +22,15 @@ use Rattle.book.specs.Layout.{conic_at, point_at}
 use Rattle.book.specs.Reader.{is_none_by_sign, is_none_by_prime, is_right_point, is_right}
 use Rattle.book.specs.Theorems.{RightBody, right_point, right_sign, right_prime, right_degenerate}
 
-by_sign : (v : Verdict) → is_none_by_sign v ≡ true → v ≡ none_by_sign_lem
+by_sign : (v : Verdict) → is_none_by_sign v ≡ true → v ≡ none_by_sign
 by_sign (point p) e = absurd (false≢true e)
-by_sign none_by_sign_lem e = refl
+by_sign none_by_sign e = refl
 by_sign (none_by_prime l) e = absurd (false≢true e)
 by_sign (refusal n) e = absurd (false≢true e)
 
 by_prime : (l : ℕ) (v : Verdict) → is_none_by_prime l v ≡ true → v ≡ none_by_prime l
 by_prime l (point p) e = absurd (false≢true e)
-by_prime l none_by_sign_lem e = absurd (false≢true e)
+by_prime l none_by_sign e = absurd (false≢true e)
 by_prime l (none_by_prime m) e = ap none_by_prime (eqb-true m l e)
 by_prime l (refusal n) e = absurd (false≢true e)
 
@@ -48,13 +48,13 @@ legal_point h p = (
       let (to-zero, base) = (and-eq-true_iff (in_range h && not (is_zero (Δ h))) (is_base p)).0 to-base in
       let (range, delta) = (and-eq-true_iff (in_range h) (not (is_zero (Δ h)))).0 to-zero in
       record {
-        non_degenerate = record { in_range_lem = T-of-true range; not_zero = λ degenerate. not_true_of_false (not-true _ delta) (is_zero_iff.1 degenerate) };
+        non_degenerate = record { in_range = T-of-true range; not_zero = λ degenerate. not_true_of_false (not-true _ delta) (is_zero_iff.1 degenerate) };
         base = base;
         on = is_zero_iff.0 on;
       },
   λ l.
       ap₂ ◌&&◌
-      (ap₂ ◌&&◌ (ap₂ ◌&&◌ (true_of_T (in_range h) l.non_degenerate.in_range_lem) (ap not (is_zero_not l.non_degenerate.not_zero))) l.base)
+      (ap₂ ◌&&◌ (ap₂ ◌&&◌ (true_of_T (in_range h) l.non_degenerate.in_range) (ap not (is_zero_not l.non_degenerate.not_zero))) l.base)
       (is_zero_iff.1 l.on),
 )
 

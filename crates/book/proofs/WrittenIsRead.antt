@@ -10,7 +10,7 @@ use lib.Dec.{T, lit≤}
 use lib.IntN.{pos}
 use lib.ListN.{length, get_or, drop}
 use Rattle.number.proofs.Least.{true_of_T, T-of-true}
-use Rattle.point.specs.Paper.{Verdict, point, none_by_sign_lem, none_by_prime, refusal}
+use Rattle.point.specs.Paper.{Verdict, point, none_by_sign, none_by_prime, refusal}
 use Rattle.conic.specs.Base.{in_range}
 use Rattle.conic.specs.declared.conic.Conic.{Conic}
 use Rattle.conic.proofs.Sizes.{in_limit}
@@ -56,8 +56,8 @@ stored_body book at h (point p) rest range e body =
       right = right_point (rw conic ok) (rw numbers (T-of-true (right_is_legal right))) (rw (conic, numbers) right.on);
       said = ap₂ with_point conic numbers;
     }
-stored_body book at h none_by_sign_lem rest range e body =
-    let conic = own_conic book at h none_by_sign_lem rest range body in
+stored_body book at h none_by_sign rest range e body =
+    let conic = own_conic book at h none_by_sign rest range body in
     record { right = right_sign (rw conic e); said = ap with_none_by_sign conic }
 stored_body book at h (none_by_prime l) rest range e body =
     let conic = own_conic book at h (none_by_prime l) rest range body in

@@ -1,7 +1,7 @@
 -- The layout of a book: two bytes for the count n; n entries of three bytes, kind and offset; then the bodies in order, no gaps.
 -- A body starts with the six coefficients as signed bytes. Assumes nothing.
 use Rattle.std.specs.Prelude.{List, [], ◌∷◌, ◌++◌, ℕ, ◌+◌, ◌*◌, get_or}
-use Rattle.point.specs.Paper.{Verdict, point, none_by_sign_lem, none_by_prime, refusal}
+use Rattle.point.specs.Paper.{Verdict, point, none_by_sign, none_by_prime, refusal}
 use Rattle.point.specs.declared.Point.{Point}
 use Rattle.conic.specs.declared.conic.Conic.{Conic}
 use Rattle.book.specs.Bytes.{bytes, number_at, unsigned, signed}
@@ -16,7 +16,7 @@ body_length kind = get_or (0 ∷ 18 ∷ 6 ∷ 10 ∷ 6 ∷ []) kind 0
 -- 1 for a point, 2 for none by sign, 3 for none by a prime, 4 where Δ = 0
 abbrev pub kind_of : Verdict → ℕ
 kind_of (point p) = 1
-kind_of none_by_sign_lem = 2
+kind_of none_by_sign = 2
 kind_of (none_by_prime l) = 3
 kind_of (refusal n) = 4
 
@@ -28,7 +28,7 @@ coefficients h =
 -- what a kind adds to the coefficients
 abbrev pub added : Verdict → List ℕ
 added (point p) = bytes 4 (unsigned 4 p.x) ++ bytes 4 (unsigned 4 p.y) ++ bytes 4 (unsigned 4 p.z)
-added none_by_sign_lem = []
+added none_by_sign = []
 added (none_by_prime l) = bytes 4 l
 added (refusal n) = []
 

@@ -2,7 +2,7 @@
 -- number that the book does not have. Assumes nothing.
 use Rattle.std.specs.Prelude.{Bool, true, false, ◌&&◌, not, cond, List, [], ◌∷◌, ◌≡◌, ℕ, zero, suc, ◌+◌, ◌*◌, eqb, leb, ltb, length, get_or}
 use Rattle.point.specs.Legal.{is_base}
-use Rattle.point.specs.Paper.{Verdict, point, none_by_sign_lem, none_by_prime, refusal, number, is_zero}
+use Rattle.point.specs.Paper.{Verdict, point, none_by_sign, none_by_prime, refusal, number, is_zero}
 use Rattle.point.specs.declared.Point.{Point}
 use Rattle.conic.specs.Form.{G, Δ}
 use Rattle.conic.specs.Base.{in_range}
@@ -35,13 +35,13 @@ layout_holds book =
 
 abbrev pub is_none_by_sign : Verdict → Bool
 is_none_by_sign (point p) = false
-is_none_by_sign none_by_sign_lem = true
+is_none_by_sign none_by_sign = true
 is_none_by_sign (none_by_prime m) = false
 is_none_by_sign (refusal n) = false
 
 abbrev pub is_none_by_prime : ℕ → Verdict → Bool
 is_none_by_prime l (point p) = false
-is_none_by_prime l none_by_sign_lem = false
+is_none_by_prime l none_by_sign = false
 is_none_by_prime l (none_by_prime m) = eqb m l
 is_none_by_prime l (refusal n) = false
 

@@ -2,7 +2,7 @@
 -- that is accepted holds only true verdicts; the book of a list determines the list. Assumes nothing.
 use Rattle.std.specs.Prelude.{List, ◌↔◌, ◌≡◌, ℕ, ◌+◌, ◌*◌, ◌<◌, ◌≤◌, T, pos, length, get_or}
 use Rattle.point.specs.Legal.{is_base}
-use Rattle.point.specs.Paper.{Verdict, point, none_by_sign_lem, none_by_prime, refusal}
+use Rattle.point.specs.Paper.{Verdict, point, none_by_sign, none_by_prime, refusal}
 use Rattle.point.specs.declared.Point.{Point}
 use Rattle.conic.specs.Form.{G, Δ}
 use Rattle.conic.specs.Base.{in_range}
@@ -27,7 +27,7 @@ pub data BrokenLayout (book : List ℕ) : Type 0 where
 pub data RightBody (book : List ℕ) (at : ℕ) : ℕ → Type 0 where
   right_point : NonDegenerate (conic_at book at) → T (is_base (point_at book (at + 6))) →
       G (conic_at book at) (point_at book (at + 6)) ≡ pos 0 → RightBody book at 1
-  right_sign : solve_of (conic_at book at) ≡ none_by_sign_lem → RightBody book at 2
+  right_sign : solve_of (conic_at book at) ≡ none_by_sign → RightBody book at 2
   right_prime : solve_of (conic_at book at) ≡ none_by_prime (number_at 4 book (at + 6)) → RightBody book at 3
   right_degenerate : T (in_range (conic_at book at)) → Δ (conic_at book at) ≡ pos 0 → RightBody book at 4
 
@@ -55,7 +55,7 @@ SixteenExactly =
 -- a conic with solve's answer; degenerate where solve refuses
 unfoldable pub with_verdict : Conic → Verdict → ReaderAnswer
 with_verdict h (point p) = with_point h p
-with_verdict h none_by_sign_lem = with_none_by_sign h
+with_verdict h none_by_sign = with_none_by_sign h
 with_verdict h (none_by_prime l) = with_none_by_prime h l
 with_verdict h (refusal n) = degenerate h
 

@@ -51,7 +51,7 @@ module _ (h : Conic) (p : Point) where
       (λ curved. cond_cases LegalIf (is_base p)
       (λ base. cond_cases LegalIf (is_zero (G h p))
       (λ on. record {
-        in_range_lem = T-of-true ranged;
+        in_range = T-of-true ranged;
         not_degenerate = λ e. not_true_of_false curved (is_zero_iff.1 e);
         legal = T-of-true base;
         on = is_zero_iff.0 on;
@@ -85,4 +85,4 @@ settle refuse next h p e f = f ∙ ap (settled refuse next) e ∙ by_judgement r
 -- ---- room for the polynomials
 
 pub at_base : (h : Conic) (p : Point) → LegalBase h p → ConicAt h p
-at_base h p l = record { conic = in_limit h l.in_range_lem; point = base_within p (true_of_T (is_base p) l.legal) }
+at_base h p l = record { conic = in_limit h l.in_range; point = base_within p (true_of_T (is_base p) l.legal) }

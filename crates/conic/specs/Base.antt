@@ -35,7 +35,7 @@ judged_of h p = from_base refused h p legal
 
 -- what the entries ask of the conic and the base
 pub record LegalBase (h : Conic) (p : Point) : Type 0 where
-  pub in_range_lem : T (in_range h)
+  pub in_range : T (in_range h)
   pub not_degenerate : ¬ (Δ h ≡ pos 0)
   pub legal : T (is_base p)
   pub on : G h p ≡ pos 0

@@ -1,6 +1,6 @@
 -- The code that an exported function returns: an answer is 0 or more, a refusal minus the paper's number. Assumes nothing.
 use Rattle.std.specs.Prelude.{ℕ, ℤ, pos, neg_ℤ}
-use Rattle.point.specs.Paper.{Verdict, point, none_by_sign_lem, none_by_prime, refusal}
+use Rattle.point.specs.Paper.{Verdict, point, none_by_sign, none_by_prime, refusal}
 use Rattle.direction.specs.Direction.{Bearing, direction, no_direction}
 use Rattle.row.specs.Row.{RowAnswer, row_length, no_row}
 use Rattle.book.specs.Writer.{WriterAnswer, book_length, no_book}
@@ -20,12 +20,12 @@ refused n = neg_ℤ (pos n)
 
 abbrev pub code : Given → ℤ
 code (to_solve (point p)) = pos 1
-code (to_solve none_by_sign_lem) = pos 2
+code (to_solve none_by_sign) = pos 2
 code (to_solve (none_by_prime l)) = pos 3
 code (to_solve (refusal n)) = refused n
 -- a direction leads to a point or is refused: the two codes of a none do not arise
 code (to_point (point p)) = pos 0
-code (to_point none_by_sign_lem) = pos 2
+code (to_point none_by_sign) = pos 2
 code (to_point (none_by_prime l)) = pos 3
 code (to_point (refusal n)) = refused n
 code (to_direction (direction t)) = pos 0

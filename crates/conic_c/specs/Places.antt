@@ -1,7 +1,7 @@
 -- The lent places as they are left: an answer's numbers where it has some for the place, and everywhere else what stood there before.
 -- A none has no coordinates, so it leaves the place of a point. Assumes nothing.
 use Rattle.std.specs.Prelude.{List, [], ◌∷◌, ◌≡◌, ℕ, ℤ}
-use Rattle.point.specs.Paper.{Verdict, point, none_by_sign_lem, none_by_prime, refusal}
+use Rattle.point.specs.Paper.{Verdict, point, none_by_sign, none_by_prime, refusal}
 use Rattle.point.specs.declared.Point.{Point}
 use Rattle.point.specs.declared.Direction.{Direction}
 use Rattle.conic.specs.declared.conic.Conic.{Conic}
@@ -22,13 +22,13 @@ coefficients h = h.a ∷ h.b ∷ h.c ∷ h.d ∷ h.e ∷ h.f ∷ []
 
 abbrev pub point_left : Verdict → List ℤ → List ℤ
 point_left (point p) before = coordinates p
-point_left none_by_sign_lem before = before
+point_left none_by_sign before = before
 point_left (none_by_prime l) before = before
 point_left (refusal n) before = before
 
 abbrev pub prime_left : Verdict → ℕ → ℕ
 prime_left (point p) before = before
-prime_left none_by_sign_lem before = before
+prime_left none_by_sign before = before
 prime_left (none_by_prime l) before = l
 prime_left (refusal n) before = before
 
@@ -46,7 +46,7 @@ conic_left (no_entry n) before = before
 -- what an entry of a book says of its conic, with the paper's number of degenerate
 abbrev pub stored_verdict : ReaderAnswer → Verdict
 stored_verdict (with_point h p) = point p
-stored_verdict (with_none_by_sign h) = none_by_sign_lem
+stored_verdict (with_none_by_sign h) = none_by_sign
 stored_verdict (with_none_by_prime h l) = none_by_prime l
 stored_verdict (degenerate h) = refusal 2
 stored_verdict (no_entry n) = refusal n

@@ -78,7 +78,7 @@ past_base refuse h p next l = λ i.
     (refuse 1)
   where
     in_range_lem : in_range h ≡ true
-    in_range_lem = true_of_T (in_range h) l.in_range_lem
+    in_range_lem = true_of_T (in_range h) l.in_range
 
     not_degenerate : is_zero (Δ h) ≡ false
     not_degenerate = is_zero_not l.not_degenerate

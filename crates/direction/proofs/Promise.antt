@@ -5,7 +5,7 @@ use mathlib.Core.Path.{◌≡◌, refl, sym, ap, ◌∙◌}
 use Prim.Native.Nat.{ℕ}
 use native.Mathlib.Omega.{arith}
 use Rattle.point.specs.Legal.{is_base, is_direction}
-use Rattle.point.specs.Paper.{Verdict, point, none_by_sign_lem, none_by_prime, refusal, is_zero}
+use Rattle.point.specs.Paper.{Verdict, point, none_by_sign, none_by_prime, refusal, is_zero}
 use Rattle.point.specs.declared.paper.Refusal.{Refusal}
 use Rattle.point.specs.declared.Point.{Point}
 use Rattle.point.specs.declared.Direction.{Direction}
@@ -22,7 +22,7 @@ use Rattle.direction.specs.declared.Directed.{Directed}
 -- a none is no answer of this step
 abbrev to_reached : Verdict → Reached
 to_reached (point p) = Reached.Point p
-to_reached none_by_sign_lem = Reached.Refused Refusal.Range
+to_reached none_by_sign = Reached.Refused Refusal.Range
 to_reached (none_by_prime l) = Reached.Refused Refusal.Range
 to_reached (refusal n) = Reached.Refused (numbered n)
 
@@ -56,7 +56,7 @@ one_of : (t : Bool) {v w : Verdict} → Plain v → Plain w → Plain (cond t v 
 one_of true v w = v
 one_of false v w = w
 
-no_sign : {v : Verdict} → Plain v → ¬ (v ≡ none_by_sign_lem)
+no_sign : {v : Verdict} → Plain v → ¬ (v ≡ none_by_sign)
 no_sign (plain_point p) e = let z : ◌≡◌ {A = ℕ} 0 1 = cc in omega arith
 no_sign (plain_refusal n) e = let z : ◌≡◌ {A = ℕ} 0 1 = cc in omega arith
 
@@ -65,7 +65,7 @@ no_prime l (plain_point p) e = let z : ◌≡◌ {A = ℕ} 0 1 = cc in omega ari
 no_prime l (plain_refusal n) e = let z : ◌≡◌ {A = ℕ} 0 1 = cc in omega arith
 
 pub point_is_no_none :
-    (h : Conic) (p : Point) (t : Direction) → (¬ (point_of h p t ≡ none_by_sign_lem)) × ((l : ℕ) → ¬ (point_of h p t ≡ none_by_prime l))
+    (h : Conic) (p : Point) (t : Direction) → (¬ (point_of h p t ≡ none_by_sign)) × ((l : ℕ) → ¬ (point_of h p t ≡ none_by_prime l))
 unfolding point_of from_base
 point_is_no_none h p t =
     let plain : Plain (point_of h p t) =

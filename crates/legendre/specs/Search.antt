@@ -10,7 +10,6 @@ use Rattle.legendre.specs.Equation.{BoxSolution}
 use Rattle.legendre.specs.declared.least.Least.{Least}
 use Rattle.legendre.specs.declared.least.Least.TheVariants.{At, Nothing}
 use Rattle.legendre.specs.declared.walk.Found.{Found}
-use Rattle.legendre.specs.declared.walk.Found.TheVariants as Found
 
 -- the least number below n at which the test holds, if there is one
 unfoldable pub least_below : (ℕ → Bool) → ℕ → Least

@@ -50,6 +50,6 @@ number Refusal.Number = 16
 -- a point, none with its reason, or a refusal by its number
 pub data Verdict : Type 0 where
   point : Point → Verdict
-  none_by_sign_lem : Verdict
+  none_by_sign : Verdict
   none_by_prime : ℕ → Verdict
   refusal : ℕ → Verdict

@@ -7,7 +7,7 @@ use native.Mathlib.Nat.{lt_of_le_of_lt}
 use native.Mathlib.Omega.{arith}
 use lib.Dec.{lit<, lit≤}
 use lib.IntN.{ℤ, pos, negsuc}
-use Rattle.point.specs.Paper.{point, none_by_sign_lem, none_by_prime, refusal}
+use Rattle.point.specs.Paper.{point, none_by_sign, none_by_prime, refusal}
 use Rattle.point.specs.declared.Point.{Point}
 use Rattle.row_reader.specs.Reading.{space, minus}
 use Rattle.row.specs.Writing.{line_feed, decimal, signed_decimal, row_text}
@@ -93,19 +93,19 @@ same_point p q e =
 pub row_tells_answer : RowTellsAnswer
 unfolding RowTellsAnswer row_text
 row_tells_answer (point p) (point q) e = ap point (same_point p q e)
-row_tells_answer (point p) none_by_sign_lem e = absurd (omega (arith, heads e))
+row_tells_answer (point p) none_by_sign e = absurd (omega (arith, heads e))
 row_tells_answer (point p) (none_by_prime l) e = absurd (omega (arith, heads e))
 row_tells_answer (point p) (refusal n) e = absurd (omega (arith, heads e))
-row_tells_answer none_by_sign_lem (point q) e = absurd (omega (arith, heads e))
-row_tells_answer none_by_sign_lem none_by_sign_lem e = refl
-row_tells_answer none_by_sign_lem (none_by_prime l) e = absurd (omega (arith, heads (tails (tails e))))
-row_tells_answer none_by_sign_lem (refusal n) e = absurd (omega (arith, heads e))
+row_tells_answer none_by_sign (point q) e = absurd (omega (arith, heads e))
+row_tells_answer none_by_sign none_by_sign e = refl
+row_tells_answer none_by_sign (none_by_prime l) e = absurd (omega (arith, heads (tails (tails e))))
+row_tells_answer none_by_sign (refusal n) e = absurd (omega (arith, heads e))
 row_tells_answer (none_by_prime l) (point q) e = absurd (omega (arith, heads e))
-row_tells_answer (none_by_prime l) none_by_sign_lem e = absurd (omega (arith, heads (tails (tails e))))
+row_tells_answer (none_by_prime l) none_by_sign e = absurd (omega (arith, heads (tails (tails e))))
 row_tells_answer (none_by_prime l) (none_by_prime m) e =
     ap none_by_prime (number_of l m (tails (tails (tails (tails (tails (tails (tails (tails e)))))))))
 row_tells_answer (none_by_prime l) (refusal n) e = absurd (omega (arith, heads e))
 row_tells_answer (refusal n) (point q) e = absurd (omega (arith, heads e))
-row_tells_answer (refusal n) none_by_sign_lem e = absurd (omega (arith, heads e))
+row_tells_answer (refusal n) none_by_sign e = absurd (omega (arith, heads e))
 row_tells_answer (refusal n) (none_by_prime l) e = absurd (omega (arith, heads e))
 row_tells_answer (refusal n) (refusal m) e = ap refusal (number_of n m (tails (tails e)))

@@ -8,7 +8,7 @@ use native.Mathlib.Omega.{arith}
 use lib.Dec.{lit<}
 use lib.IntN.{ℤ, pos, negsuc, nat_abs}
 use lib.ListN.{length, length-append}
-use Rattle.point.specs.Paper.{Verdict, point, none_by_sign_lem, none_by_prime, refusal, point_limit}
+use Rattle.point.specs.Paper.{Verdict, point, none_by_sign, none_by_prime, refusal, point_limit}
 use Rattle.point.specs.Sizes.{PointWithin}
 use Rattle.conic.specs.declared.conic.Conic.{Conic}
 use Rattle.solve.specs.Solve.{solve_of}
@@ -22,7 +22,7 @@ use Rattle.row.proofs.Decimal.{decimal_length}
 -- what a row has room for
 abbrev Small : Verdict → Type 0
 Small (point p) = PointWithin point_limit p
-Small none_by_sign_lem = Unit {0}
+Small none_by_sign = Unit {0}
 Small (none_by_prime l) = l < 10 ^ 9
 Small (refusal n) = n < 10 ^ 2
 
@@ -36,7 +36,7 @@ unfolding row_text
 row_length (point p) small =
     simp length-append
     (omega (arith, signed_length p.x small.x_within, signed_length p.y small.y_within, signed_length p.z small.z_within))
-row_length none_by_sign_lem h = omega arith
+row_length none_by_sign h = omega arith
 row_length (none_by_prime l) h = simp length-append (omega (arith, decimal_length l 8 h))
 row_length (refusal n) h = simp length-append (omega (arith, decimal_length n 1 h))
 
@@ -44,7 +44,7 @@ row_length (refusal n) h = simp length-append (omega (arith, decimal_length n 1 
 
 solve_small : (h : Conic) (v : Verdict) → solve_of h ≡ v → Small v
 solve_small h (point p) e = point_fits h p e
-solve_small h none_by_sign_lem e = tt
+solve_small h none_by_sign e = tt
 solve_small h (none_by_prime l) e = prime_below h l e
 solve_small h (refusal n) e = lt_of_le_of_lt (refusal_at_most h n e) (lit< tt)
 

@@ -1,6 +1,6 @@
 -- Writing a row: "P x y z", "N sign", "N prime n" or "R n", numbers in decimal, ended by one line feed. Assumes nothing.
 use Rattle.std.specs.Prelude.{cond, List, [], ◌∷◌, ◌++◌, ℕ, zero, suc, ◌+◌, ◌/◌, ◌%◌, ltb, ℤ, pos, negsuc}
-use Rattle.point.specs.Paper.{Verdict, point, none_by_sign_lem, none_by_prime, refusal}
+use Rattle.point.specs.Paper.{Verdict, point, none_by_sign, none_by_prime, refusal}
 use Rattle.row_reader.specs.Reading.{space, minus, digit_zero}
 
 abbrev pub line_feed : ℕ
@@ -24,7 +24,7 @@ unfoldable pub row_text : Verdict → List ℕ
 row_text (point p) =
     80 ∷ space ∷ signed_decimal p.x ++ space ∷ signed_decimal p.y ++ space ∷ signed_decimal p.z ++ line_feed ∷ []
 -- "N sign"
-row_text none_by_sign_lem = 78 ∷ space ∷ 115 ∷ 105 ∷ 103 ∷ 110 ∷ line_feed ∷ []
+row_text none_by_sign = 78 ∷ space ∷ 115 ∷ 105 ∷ 103 ∷ 110 ∷ line_feed ∷ []
 -- "N prime n"
 row_text (none_by_prime l) = 78 ∷ space ∷ 112 ∷ 114 ∷ 105 ∷ 109 ∷ 101 ∷ space ∷ decimal l ++ line_feed ∷ []
 -- "R n"

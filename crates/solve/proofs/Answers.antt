@@ -16,7 +16,7 @@ use Rattle.number.proofs.Least.{T-of-true, not_true_of_false}
 use Rattle.number.proofs.Prime.{prime_divides_product}
 use Rattle.legendre.specs.Outcome.{outcome_of}
 use Rattle.legendre.specs.declared.outcome.Outcome.{Outcome}
-use Rattle.point.specs.Paper.{Verdict, point, none_by_sign_lem, none_by_prime, refusal, point_limit, is_zero}
+use Rattle.point.specs.Paper.{Verdict, point, none_by_sign, none_by_prime, refusal, point_limit, is_zero}
 use Rattle.point.specs.Sizes.{PointWithin}
 use Rattle.point.specs.declared.Point.{Point}
 use Rattle.point.proofs.Cases.{by_test, cond_cases}
@@ -35,7 +35,7 @@ use Rattle.solve.proofs.Levelling.{levellable, levelled_by_own, D-is, aΔ_is}
 
 abbrev pub is_refusal : Verdict → Bool
 is_refusal (point p) = false
-is_refusal none_by_sign_lem = false
+is_refusal none_by_sign = false
 is_refusal (none_by_prime l) = false
 is_refusal (refusal n) = true
 
@@ -47,7 +47,7 @@ answered h e =
     by_test (in_range h)
     (λ range. by_test (is_zero (Δ h))
     (λ zero. absurd (not_true_of_false e (ap (λ (t : Bool). tests t (is_zero (Δ h))) range ∙ ap (tests true) zero)))
-    (λ other. record { in_range_lem = T-of-true range; not_zero = not_zero_of_false other }))
+    (λ other. record { in_range = T-of-true range; not_zero = not_zero_of_false other }))
     (λ out. absurd (not_true_of_false e (ap (λ (t : Bool). tests t (is_zero (Δ h))) out)))
 
 no_refusal : (h : Conic) → is_refusal (solve_non_degenerate h) ≡ false
@@ -71,13 +71,13 @@ refused h range e =
 
 abbrev NumberAtMost : Verdict → Type 0
 NumberAtMost (point p) = Unit {0}
-NumberAtMost none_by_sign_lem = Unit {0}
+NumberAtMost none_by_sign = Unit {0}
 NumberAtMost (none_by_prime l) = Unit {0}
 NumberAtMost (refusal n) = n ≤ 2
 
 no_number : (v : Verdict) → is_refusal v ≡ false → NumberAtMost v
 no_number (point p) e = tt
-no_number none_by_sign_lem e = tt
+no_number none_by_sign e = tt
 no_number (none_by_prime l) e = tt
 no_number (refusal n) e = absurd (not_true_of_false e refl)
 
@@ -118,7 +118,7 @@ prime_below h l e =
     let levels = levellable ok.not_zero (not_square h l e ok) in
     let v = levelled_by_own levels in
     let failing = (prime_is_true h l ok e).1 _ _ _ _ _ _ _ v in
-    let limits = in_limit h ok.in_range_lem in
+    let limits = in_limit h ok.in_range in
     ⊎_elim
     (λ by-pg. lt_of_le_of_lt (small l (D h) _ _ (sym (D-is v)) levels.D-not-zero (D-size h limits) (∣ℤ_times_right _ by-pg)) (lit< tt))
     (λ by-q. lt_of_le_of_lt (small l (h.a *ℤ Δ h) _ _ (sym (aΔ_is v)) levels.aΔ_not_zero (aΔ_size h limits) (∣ℤ_times_right _ (∣ℤ_times_right _ by-q))) (lit< tt))

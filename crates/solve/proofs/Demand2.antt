@@ -16,7 +16,7 @@ use Rattle.legendre.specs.declared.outcome.Triple.{Triple}
 use Rattle.legendre.specs.declared.outcome.Outcome.{Outcome}
 use Rattle.legendre.proofs.Answer as Legendre
 use Rattle.point.specs.Normal.{or_else, leading, normal}
-use Rattle.point.specs.Paper.{point_limit, Verdict, point, none_by_sign_lem, none_by_prime, refusal, is_zero}
+use Rattle.point.specs.Paper.{point_limit, Verdict, point, none_by_sign, none_by_prime, refusal, is_zero}
 use Rattle.point.specs.Sizes.{PointWithin}
 use Rattle.point.specs.declared.Point.{Point}
 use Rattle.point.proofs.Normal.{signed_factor, factor_times_normal, normal_is_normal_form}
@@ -47,7 +47,7 @@ data Way (h : Conic) : Type 0 where
 not_refused : (h : Conic) → NonDegenerate h → solve_of h ≡ solve_non_degenerate h
 unfolding solve_of
 not_refused h ok =
-    ap (λ b. cond b (cond (is_zero (Δ h)) (refusal 2) (solve_non_degenerate h)) (refusal 1)) (true_of_T (in_range h) ok.in_range_lem)
+    ap (λ b. cond b (cond (is_zero (Δ h)) (refusal 2) (solve_non_degenerate h)) (refusal 1)) (true_of_T (in_range h) ok.in_range)
     ∙ ap (λ b. cond b (refusal 2) (solve_non_degenerate h)) (is_zero_not {n = Δ h} ok.not_zero)
 
 way : (h : Conic) → NonDegenerate h → Way h
@@ -65,29 +65,29 @@ way h ok = by (true_or_false (is_square_number (neg_ℤ (D h))))
 
 abbrev pub is_point : Verdict → Bool
 is_point (point p) = true
-is_point none_by_sign_lem = false
+is_point none_by_sign = false
 is_point (none_by_prime l) = false
 is_point (refusal n) = false
 
 abbrev is_sign : Verdict → Bool
 is_sign (point p) = false
-is_sign none_by_sign_lem = true
+is_sign none_by_sign = true
 is_sign (none_by_prime l) = false
 is_sign (refusal n) = false
 
 abbrev point_or : Point → Verdict → Point
 point_or p (point q) = q
-point_or p none_by_sign_lem = p
+point_or p none_by_sign = p
 point_or p (none_by_prime l) = p
 point_or p (refusal n) = p
 
 abbrev prime_or : ℕ → Verdict → ℕ
 prime_or n (point q) = n
-prime_or n none_by_sign_lem = n
+prime_or n none_by_sign = n
 prime_or n (none_by_prime l) = l
 prime_or n (refusal m) = n
 
-carried_sign : (h : Conic) (o : Outcome) → outcome_carried h o ≡ none_by_sign_lem → o ≡ Outcome.Sign
+carried_sign : (h : Conic) (o : Outcome) → outcome_carried h o ≡ none_by_sign → o ≡ Outcome.Sign
 unfolding outcome_carried
 carried_sign h Outcome.Sign e = refl
 carried_sign h (Outcome.Prime l) e = absurd (true≢false (sym (ap is_sign e)))
@@ -151,7 +151,7 @@ from_infinity_right h ok square =
     line = trial h s ok.not_zero far.not_zero
 
     small : InLimit h
-    small = in_limit h ok.in_range_lem
+    small = in_limit h ok.in_range
 
 -- ---- however D and aΔ are split
 
@@ -182,7 +182,7 @@ module _ {h : Conic} {d₁ e₁ : ℤ} {s t : ℕ} {p g q : ℤ} (v : LevelledBy
       (from_primed_within h (primed (level v) m) small (primed_within v small box))
     where
       small : InLimit h
-      small = in_limit h ok.in_range_lem
+      small = in_limit h ok.in_range
 
 -- ---- the statements
 
@@ -249,7 +249,7 @@ pub sign_exactly : SignExactly
 unfolding SignExactly outcome_carried Answer.SignExactly
 sign_exactly h ok = (λ e. by e (way h ok), given)
   where
-    by : solve_of h ≡ none_by_sign_lem → Way h → OneSignEverywhere h
+    by : solve_of h ≡ none_by_sign → Way h → OneSignEverywhere h
     by e (from_square square f) = absurd (true≢false (ap is_sign (sym e ∙ f)))
     by e (by_level plain f) =
         let able = levellable ok.not_zero plain in
@@ -258,7 +258,7 @@ sign_exactly h ok = (λ e. by e (way h ok), given)
         ((Legendre.sign_exactly (level_of h).p (level_of h).g (level_of h).q).0
         (carried_sign h (outcome_of (level_of h).p (level_of h).g (level_of h).q) (sym (solved_as own ok plain) ∙ e)))
 
-    given : OneSignEverywhere h → solve_of h ≡ none_by_sign_lem
+    given : OneSignEverywhere h → solve_of h ≡ none_by_sign
     given one =
         let plain = not_square h one in
         let able = levellable ok.not_zero plain in

@@ -29,7 +29,7 @@ module _ (h : Conic) where
   solve_other ranged curved = unless _ _ curved ∙ when _ _ ranged
 
   pub not_degenerate : in_range h ≡ true → is_zero (Δ h) ≡ false → NonDegenerate h
-  not_degenerate ranged curved = record { in_range_lem = T-of-true ranged; not_zero = λ e. not_true_of_false curved (is_zero_iff.1 e) }
+  not_degenerate ranged curved = record { in_range = T-of-true ranged; not_zero = λ e. not_true_of_false curved (is_zero_iff.1 e) }
 
   pub solve_square : is_square_number (neg_ℤ (D h)) ≡ true → point (from_infinity h) ≡ solve_non_degenerate h
   unfolding solve_non_degenerate

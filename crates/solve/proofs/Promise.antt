@@ -1,6 +1,6 @@
 -- The promise of solve determines its answer, which can be told from what it stands for in the paper. Assumes nothing.
 use mathlib.Core.Path.{◌≡◌, refl, sym, ap, ◌∙◌}
-use Rattle.point.specs.Paper.{Verdict, point, none_by_sign_lem, none_by_prime, refusal}
+use Rattle.point.specs.Paper.{Verdict, point, none_by_sign, none_by_prime, refusal}
 use Rattle.point.proofs.Promise.{told_apart, numbered, numbered_number}
 use Rattle.conic.specs.declared.conic.Conic.{Conic}
 use Rattle.solve.specs.Answer.{solved}
@@ -13,7 +13,7 @@ use Rattle.solve.specs.declared.Solved.{Solved}
 
 abbrev to_solved : Verdict → Solved
 to_solved (point p) = Solved.Answer (Answer.Point p)
-to_solved none_by_sign_lem = Solved.Answer (Answer.None Reason.Sign)
+to_solved none_by_sign = Solved.Answer (Answer.None Reason.Sign)
 to_solved (none_by_prime l) = Solved.Answer (Answer.None (Reason.Prime l))
 to_solved (refusal n) = Solved.Refused (numbered n)
 

@@ -1,11 +1,11 @@
 -- What each case of solve's answer stands for in the paper. Assumes nothing.
-use Rattle.point.specs.Paper.{number, Verdict, point, none_by_sign_lem, none_by_prime, refusal}
+use Rattle.point.specs.Paper.{number, Verdict, point, none_by_sign, none_by_prime, refusal}
 use Rattle.solve.specs.declared.Answer.{Answer}
 use Rattle.solve.specs.declared.Reason.{Reason}
 use Rattle.solve.specs.declared.Solved.{Solved}
 
 abbrev pub reason_given : Reason → Verdict
-reason_given Reason.Sign = none_by_sign_lem
+reason_given Reason.Sign = none_by_sign
 reason_given (Reason.Prime l) = none_by_prime l
 
 abbrev pub answered : Answer → Verdict

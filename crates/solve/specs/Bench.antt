@@ -1,7 +1,7 @@
 -- The paper's starred bench examples: the list of conics, the list of their answers, and the one statement that solve gives the second
 -- for the first. Assumes nothing.
 use Rattle.std.specs.Prelude.{◌≡◌, List, [], ◌∷◌, map, ℕ, ℤ, pos, neg_ℤ}
-use Rattle.point.specs.Paper.{Verdict, point, none_by_sign_lem, none_by_prime}
+use Rattle.point.specs.Paper.{Verdict, point, none_by_sign, none_by_prime}
 use Rattle.conic.specs.declared.conic.Conic.{Conic}
 use Rattle.solve.specs.Solve.{solve_of}
 
@@ -35,7 +35,7 @@ starred_answers =
     at (pos 0) (pos 1) (pos 1) ∷
     at (pos 0) (pos 1) (pos 1) ∷
     none_by_prime 3 ∷
-    none_by_sign_lem ∷
+    none_by_sign ∷
     none_by_prime 3 ∷
     none_by_prime 3 ∷
     at (pos 1) (pos 2) (pos 1) ∷

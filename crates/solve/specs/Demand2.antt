@@ -6,7 +6,7 @@ use Rattle.number.specs.Squarefree.{Squarefree}
 use Rattle.legendre.specs.Answer.{Chosen, LeastFailing}
 use Rattle.legendre.specs.declared.outcome.Triple.{Triple}
 use Rattle.point.specs.Normal.{normal, NormalForm}
-use Rattle.point.specs.Paper.{point, none_by_sign_lem, none_by_prime, point_limit}
+use Rattle.point.specs.Paper.{point, none_by_sign, none_by_prime, point_limit}
 use Rattle.point.specs.declared.Point.{Point}
 use Rattle.conic.specs.Form.{G, L, D, Δ, drawn}
 use Rattle.conic.specs.Base.{in_range}
@@ -15,7 +15,7 @@ use Rattle.solve.specs.Level.{carried_back}
 use Rattle.solve.specs.Solve.{first_line, second_line, third_line, solve_of}
 
 pub record NonDegenerate (h : Conic) : Type 0 where
-  pub in_range_lem : T (in_range h)
+  pub in_range : T (in_range h)
   pub not_zero : ¬ (Δ h ≡ pos 0)
 
 -- some pair of rationals satisfies the equation
@@ -48,7 +48,7 @@ OneSignEverywhere h =
 
 -- 3. none by sign exactly if there is no real point
 unfoldable pub SignExactly : Type 0
-SignExactly = (h : Conic) → NonDegenerate h → solve_of h ≡ none_by_sign_lem ↔ OneSignEverywhere h
+SignExactly = (h : Conic) → NonDegenerate h → solve_of h ≡ none_by_sign ↔ OneSignEverywhere h
 
 -- D = d₁s², aΔ = e₁t² with d₁, e₁ squarefree and s, t ≥ 1; g = gcd(d₁, e₁), p = d₁/g, q = e₁/g
 pub record LevelledBy (h : Conic) (d₁ e₁ : ℤ) (s t : ℕ) (p g q : ℤ) : Type 0 where

@@ -6,7 +6,7 @@ use Rattle.number.specs.Square.{root_of, is_square}
 use Rattle.legendre.specs.Outcome.{outcome_of}
 use Rattle.legendre.specs.declared.outcome.Outcome.{Outcome}
 use Rattle.point.specs.Normal.{normal}
-use Rattle.point.specs.Paper.{Verdict, point, none_by_sign_lem, none_by_prime, refusal, is_zero}
+use Rattle.point.specs.Paper.{Verdict, point, none_by_sign, none_by_prime, refusal, is_zero}
 use Rattle.point.specs.declared.Point.{Point}
 use Rattle.conic.specs.Form.{L, D, Δ, drawn}
 use Rattle.conic.specs.Base.{in_range}
@@ -45,7 +45,7 @@ unfoldable pub from_infinity : Conic → Point
 from_infinity h = normal (drawn h (start_at_infinity h) (trial_line h (start_at_infinity h)))
 
 unfoldable pub outcome_carried : Conic → Outcome → Verdict
-outcome_carried h Outcome.Sign = none_by_sign_lem
+outcome_carried h Outcome.Sign = none_by_sign
 outcome_carried h (Outcome.Prime l) = none_by_prime l
 outcome_carried h (Outcome.Solution m) = point (carried_back h (level_of h) m)
 

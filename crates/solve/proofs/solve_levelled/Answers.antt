@@ -1,5 +1,5 @@
--- `solve::solve_levelled` meets its contract: the levelled equation is within reach, and its answer is carried back case by case.
--- Assumes nothing.
+-- `solve::solve_levelled` meets its contract: the levelled equation is within reach, and its answer is carried back
+-- case by case. Assumes nothing.
 use mathlib.Core.Path.{◌≡◌, sym, ap, subst, ◌∙◌}
 use Prim.Native.Nat.{ℕ}
 use mir.Syntax.{w64}
@@ -10,14 +10,14 @@ use Rattle.legendre.specs.Outcome.{outcome_of}
 use Rattle.legendre.specs.Reach.{Reach}
 use Rattle.legendre.specs.declared.outcome.Triple.{Triple}
 use Rattle.legendre.specs.declared.outcome.Outcome.{Outcome}
-use Rattle.point.specs.Paper.{point, none_by_sign_lem, none_by_prime}
+use Rattle.point.specs.Paper.{point, none_by_sign, none_by_prime}
 use Rattle.conic.specs.Sizes.{InLimit}
 use Rattle.conic.specs.declared.conic.Conic.{Conic}
 use Rattle.conic.proofs.Sizes.{in_limit}
 use Rattle.solve.specs.Level.{level_of, carried_back}
-use Rattle.solve.specs.Demand2.{NonDegenerate, SquareDiscriminant}
 use Rattle.solve.specs.Sizes.{CarriedFrom}
 use Rattle.solve.specs.Solve.{outcome_carried, solve_levelled}
+use Rattle.solve.specs.Demand2.{NonDegenerate, SquareDiscriminant}
 use Rattle.solve.specs.declared.level.Level.{Level}
 use Rattle.solve.proofs.Carrying.{can_level, carried_from}
 use Rattle.solve.proofs.Levelling.{Levellable, levellable}
@@ -28,7 +28,7 @@ abbrev own_outcome : Conic → Outcome
 own_outcome h = outcome_of (level_of h).p (level_of h).g (level_of h).q
 
 module _ (h : Conic) where
-  sign_carried : Outcome.Sign ≡ own_outcome h → none_by_sign_lem ≡ solve_levelled h
+  sign_carried : Outcome.Sign ≡ own_outcome h → none_by_sign ≡ solve_levelled h
   unfolding outcome_carried solve_levelled
   sign_carried e = ap (outcome_carried h) e
 
@@ -36,14 +36,24 @@ module _ (h : Conic) where
   unfolding outcome_carried solve_levelled
   prime_carried e = ap (outcome_carried h) e
 
-  solution_carried : {m : Triple} → Outcome.Solution m ≡ own_outcome h → point (carried_back h (level_of h) m) ≡ solve_levelled h
+  solution_carried :
+      {m : Triple} → Outcome.Solution m ≡ own_outcome h → point (carried_back h (level_of h) m) ≡ solve_levelled h
   unfolding outcome_carried solve_levelled
   solution_carried e = ap (outcome_carried h) e
 
 -- p, g and q are handed over one by one
-module _ (h : Conic) {v : Level} (v_is : v ≡ level_of h) (p_fits : SFits w64 v.p) (g_fits : SFits w64 v.g) (q_fits : SFits w64 v.q) where
+module _
+    (h : Conic) {v : Level} (v_is : v ≡ level_of h)
+    (p_fits : SFits w64 v.p) (g_fits : SFits w64 v.g) (q_fits : SFits w64 v.q) where
   abbrev given : Level
-  given = record { p = to_z w64 (of_z w64 v.p); g = to_z w64 (of_z w64 v.g); q = to_z w64 (of_z w64 v.q); s = v.s; t = v.t }
+  given =
+      record {
+        p = to_z w64 (of_z w64 v.p);
+        g = to_z w64 (of_z w64 v.g);
+        q = to_z w64 (of_z w64 v.q);
+        s = v.s;
+        t = v.t;
+      }
 
   handed_over : given ≡ level_of h
   handed_over =
@@ -61,7 +71,7 @@ module _ (h : Conic) {v : Level} (v_is : v ≡ level_of h) (p_fits : SFits w64 v
 
 module _ (h : Conic) (n : NonDegenerate h × (¬ SquareDiscriminant h)) where
   small : InLimit h
-  small = in_limit h n.0.in_range_lem
+  small = in_limit h n.0.in_range
 
   able : Levellable h
   able = levellable n.0.not_zero n.1

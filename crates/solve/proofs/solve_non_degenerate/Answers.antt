@@ -6,14 +6,13 @@ use Rattle.point.specs.Paper.{point}
 use Rattle.conic.proofs.Sizes.{in_limit}
 use Rattle.solve.proofs.Entries.{solve_square, solve_by_level}
 use Rattle.solve.proofs.Infinity.{is_square_iff}
-use Rattle.solve.proofs.solve_non_degenerate.Goals.{Else-has_square_discriminant}
 use Rattle.solve.proofs.solve_non_degenerate.Goals as goal
 
 pub has_square_discriminant-requires : goal.has_square_discriminant-requires
-has_square_discriminant-requires c = in_limit c.args.h c.requires.in_range_lem
+has_square_discriminant-requires c = in_limit c.args.h c.requires.in_range
 
 pub from_infinity-requires : goal.from_infinity-requires
-from_infinity-requires c = in_limit c.args.h c.requires.in_range_lem
+from_infinity-requires c = in_limit c.args.h c.requires.in_range
 
 pub solve_levelled-requires : goal.solve_levelled-requires
 solve_levelled-requires c =

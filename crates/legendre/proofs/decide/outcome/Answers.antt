@@ -1,5 +1,5 @@
--- `legendre::decide::outcome` meets its contract: its three answers are those of the definition, and where neither the sign nor a prime
--- forbids it the box holds a solution for `chosen` to find. Assumes nothing.
+-- `legendre::decide::outcome` meets its contract: its three answers are those of the definition, and where neither the
+-- sign nor a prime forbids it the box holds a solution for `chosen` to find. Assumes nothing.
 use mathlib.Core.Path.{◌≡◌, sym, ap, ◌∙◌}
 use mathlib.Core.Bool.{true, false}
 use lib.IntN.{ℤ}
@@ -14,9 +14,12 @@ use Rattle.legendre.proofs.Decision.{answer_of, found, answer_sign, answer_mixed
 use Rattle.legendre.proofs.decide.outcome.Goals as goal
 
 -- what the calls gave, in the numbers themselves
-module _ {A : Type 0} (f : ℤ → ℤ → ℤ → A) {p g q : ℤ} (p_fits : SFits w64 p) (g_fits : SFits w64 g) (q_fits : SFits w64 q) where
-  in_the_numbers : f (kept p) (kept g) (kept q) ≡ f p g q
-  in_the_numbers i = f (to_z-of_z p_fits i) (to_z-of_z g_fits i) (to_z-of_z q_fits i)
+module _
+    {A : Type 0} (f : ℤ → ℤ → ℤ → A)
+    {p g q : ℤ} (p_fits : SFits w64 p) (g_fits : SFits w64 g) (q_fits : SFits w64 q)
+  where
+    in_the_numbers : f (kept p) (kept g) (kept q) ≡ f p g q
+    in_the_numbers i = f (to_z-of_z p_fits i) (to_z-of_z g_fits i) (to_z-of_z q_fits i)
 
 pub returns-then-one_sign : goal.returns-then-one_sign
 returns-then-one_sign c =
@@ -28,7 +31,8 @@ pub returns-in-At : goal.returns-in-At
 returns-in-At c =
     let mixed : is_one_sign c.args.p c.args.g c.args.q ≡ false
     = sym (c.if-one_sign.ensures ∙ in_the_numbers is_one_sign c.ranges.p c.ranges.g c.ranges.q) in
-    ap (λ o. answer_of o (chosen c.args.p c.args.g c.args.q)) (c.in-At.ensures ∙ in_the_numbers found c.ranges.p c.ranges.g c.ranges.q)
+    ap (λ o. answer_of o (chosen c.args.p c.args.g c.args.q))
+    (c.in-At.ensures ∙ in_the_numbers found c.ranges.p c.ranges.g c.ranges.q)
     ∙ answer_mixed c.args.p c.args.g c.args.q mixed
 
 pub chosen-requires : goal.chosen-requires
@@ -45,5 +49,6 @@ returns c =
     let mixed : is_one_sign c.args.p c.args.g c.args.q ≡ false
     = sym (c.if-one_sign.ensures ∙ in_the_numbers is_one_sign c.ranges.p c.ranges.g c.ranges.q) in
     ap Solution (c.chosen.ensures ∙ in_the_numbers chosen c.ranges.p c.ranges.g c.ranges.q)
-    ∙ ap (λ o. answer_of o (chosen c.args.p c.args.g c.args.q)) (c.in_default.ensures ∙ in_the_numbers found c.ranges.p c.ranges.g c.ranges.q)
+    ∙ ap (λ o. answer_of o (chosen c.args.p c.args.g c.args.q))
+    (c.in_default.ensures ∙ in_the_numbers found c.ranges.p c.ranges.g c.ranges.q)
     ∙ answer_mixed c.args.p c.args.g c.args.q mixed

@@ -1,8 +1,7 @@
--- `legendre::failing::failing` meets its contract. The invariant is `Trial`: the primes taken out of the size hold, and no number below
--- the divisor divides what is left. The measure is what is left plus the way of the divisor to its limit. Assumes nothing.
+-- `legendre::failing::failing` meets its contract: a divisor that divides what is left is the least prime left, so the
+-- first at which the number is no square is the find; and at the loop's end what is left is 1 or a prime. Assumes nothing.
 use mathlib.Core.Path.{◌≡◌, sym, ap, ◌∙◌}
-use Prim.Native.Nat.{ℕ, suc, ◌+◌, ◌-◌}
-use native.Mathlib.Nat.{mul-le-mul, div-lt_self}
+use Prim.Native.Nat.{ℕ, suc}
 use native.Mathlib.Omega.{arith}
 use borrow.Author.Tests.{not-true, not-false}
 use lib.IntN.{ℤ}
@@ -10,74 +9,62 @@ use mir.Syntax.{w64}
 use mir.Val.{SFits, to_z, of_z}
 use mir.Facts.{to_z-of_z}
 use Rattle.legendre.specs.Search.{least_below, fails}
-use Rattle.legendre.proofs.FailingPrimes.{divisor_limit, Trial, trial_start, trial_taken, trial_next, divisor_small, divisor_prime, divisor_fails, none_left, rest_at_most, rest_prime, rest_fails, rest_holds}
+use Rattle.legendre.proofs.FailingPrimes.{trial_taken, trial_next, divisor_small, divisor_prime, divisor_fails, none_left, rest_at_most, rest_prime, rest_fails, rest_holds}
 use Rattle.legendre.proofs.failing.failing.Goals as goal
 
 -- the loop reads the number from its bits
-at_number : (size : ℕ) {number : ℤ} → SFits w64 number → least_below (fails size (to_z w64 (of_z w64 number))) (suc size) ≡ least_below (fails size number) (suc size)
+at_number : (size : ℕ) {number : ℤ} → SFits w64 number
+    → least_below (fails size (to_z w64 (of_z w64 number))) (suc size) ≡ least_below (fails size number) (suc size)
 at_number size f = ap (λ (n : ℤ). least_below (fails size n) (suc size)) (to_z-of_z f)
-
-pub loop-divisor-init : goal.loop-divisor-init
-loop-divisor-init c = trial_start c.args.size _ c.requires.positive
-
-pub overflow_mul-divisor : goal.overflow_mul-divisor
-overflow_mul-divisor c = omega (arith, mul-le-mul c.loop-divisor.invariant.divisor_bound c.loop-divisor.invariant.divisor_bound)
 
 pub no_root-requires : goal.no_root-requires
 no_root-requires c =
     let t = c.loop-divisor.invariant in
-    record { prime = divisor_prime t c.requires.positive c.if-rest-divisor-eq0.true; small = omega (arith, t.divisor_bound) }
+    record {
+      prime = divisor_prime t c.requires.positive c.if-rest-divisor-eq0.true;
+      small = omega (arith, t.divisor_bound);
+    }
 
 pub returns-then-no_root : goal.returns-then-no_root
 returns-then-no_root c =
-    let s = c.before.before.before.before.before in
-    divisor_fails c.loop-divisor.invariant s.requires.positive c.if-rest-divisor-eq0.true
+    divisor_fails c.loop-divisor.invariant c.requires.positive c.if-rest-divisor-eq0.true
     (not-true _ (sym c.no_root.ensures ∙ c.if-no_root.true))
-    ∙ at_number s.args.size s.ranges.number
-
-pub loop-divisor-smaller-then-rest-divisor-eq0 : goal.loop-divisor-smaller-then-rest-divisor-eq0
-loop-divisor-smaller-then-rest-divisor-eq0 c =
-    let t = c.loop-divisor.invariant in
-    omega (arith, div-lt_self t.positive t.from_two)
+    ∙ at_number c.args.size c.ranges.number
 
 pub loop-divisor-preserved-then-rest-divisor-eq0 : goal.loop-divisor-preserved-then-rest-divisor-eq0
 loop-divisor-preserved-then-rest-divisor-eq0 c =
-    let s = c.before.before.before.before.before in
-    trial_taken c.loop-divisor.invariant s.requires.positive c.if-rest-divisor-eq0.true
+    trial_taken c.loop-divisor.invariant c.requires.positive c.if-rest-divisor-eq0.true
     (not-false _ (sym c.no_root.ensures ∙ c.if-no_root.false))
 
 pub loop-divisor-smaller : goal.loop-divisor-smaller
 loop-divisor-smaller c =
-    let s = c.before.before.before in
-    omega (arith, divisor_small c.loop-divisor.invariant s.requires.positive s.requires.small (omega arith))
+    omega (arith, divisor_small c.loop-divisor.invariant c.requires.positive c.requires.small (omega arith))
 
 pub loop-divisor-preserved : goal.loop-divisor-preserved
 loop-divisor-preserved c =
-    let s = c.before.before.before in
     let t = c.loop-divisor.invariant in
-    trial_next t s.requires.positive (divisor_small t s.requires.positive s.requires.small (omega arith)) c.if-rest-divisor-eq0.false
+    trial_next t c.requires.positive (divisor_small t c.requires.positive c.requires.small (omega arith)) c.if-rest-divisor-eq0.false
 
 pub returns-then-rest-eq1 : goal.returns-then-rest-eq1
 returns-then-rest-eq1 c =
-    let s = c.before.before.before in
-    none_left c.loop-divisor.invariant s.requires.positive c.if-rest-eq1.true ∙ at_number s.args.size s.ranges.number
+    none_left c.loop-divisor.invariant c.requires.positive c.if-rest-eq1.true ∙ at_number c.args.size c.ranges.number
 
 pub no_root-requires-2 : goal.no_root-requires-2
 no_root-requires-2 c =
-    let s = c.before.before.before in
     let t = c.loop-divisor.invariant in
-    record { prime = rest_prime t s.requires.positive (omega arith) c.if-rest-eq1.false; small = omega (arith, rest_at_most t s.requires.positive, s.requires.small) }
+    record {
+      prime = rest_prime t c.requires.positive (omega arith) c.if-rest-eq1.false;
+      small = omega (arith, rest_at_most t c.requires.positive, c.requires.small);
+    }
 
 pub returns-then-no_root-2 : goal.returns-then-no_root-2
 returns-then-no_root-2 c =
-    let s = c.before.before.before.before.before in
-    rest_fails c.loop-divisor.invariant s.requires.positive (omega arith) c.if-rest-eq1.false
+    rest_fails c.loop-divisor.invariant c.requires.positive (omega arith) c.if-rest-eq1.false
     (not-true _ (sym c.no_root-2.ensures ∙ c.if-no_root-2.true))
-    ∙ at_number s.args.size s.ranges.number
+    ∙ at_number c.args.size c.ranges.number
 
 pub returns-else-no_root-2 : goal.returns-else-no_root-2
 returns-else-no_root-2 c =
-    let s = c.before.before.before.before.before in
-    rest_holds c.loop-divisor.invariant s.requires.positive (omega arith) c.if-rest-eq1.false
+    rest_holds c.loop-divisor.invariant c.requires.positive (omega arith) c.if-rest-eq1.false
     (not-false _ (sym c.no_root-2.ensures ∙ c.if-no_root-2.false))
-    ∙ at_number s.args.size s.ranges.number
+    ∙ at_number c.args.size c.ranges.number

@@ -1,4 +1,5 @@
--- `legendre::failing::no_root` meets its contract: there is nothing for a root where the number is no square. Assumes nothing.
+-- `legendre::failing::no_root` meets its contract: there is nothing for a root where the number is no square.
+-- Assumes nothing.
 use mathlib.Core.Path.{◌≡◌, refl, sym, ap, ◌∙◌}
 use mathlib.Core.Bool.{Bool, true, false, not}
 use Prim.Native.Nat.{ℕ}
@@ -20,14 +21,20 @@ nothing_iff true r = refl
 nothing_iff false r = refl
 
 -- what a root says of the number's being a square
-told : {found : Root} (l : ℕ) {n m : ℤ} → found ≡ least_root l n → n ≡ m → is_nothing found ≡ not (is_square_modulo l m)
+told : {found : Root} (l : ℕ) {n m : ℤ} → found ≡ least_root l n → n ≡ m
+    → is_nothing found ≡ not (is_square_modulo l m)
 unfolding least_root
-told l {n} {m} e same = ap is_nothing e ∙ nothing_iff (is_square_modulo l n) (least_root_of l n) ∙ ap (λ (k : ℤ). not (is_square_modulo l k)) same
+told l {n} {m} e same =
+    ap is_nothing e
+    ∙ nothing_iff (is_square_modulo l n) (least_root_of l n)
+    ∙ ap (λ (k : ℤ). not (is_square_modulo l k)) same
 
 pub returns-in-Nothing : goal.returns-in-Nothing
 unfolding is_nothing
-returns-in-Nothing c = ap is_nothing (sym c.in-Nothing.is) ∙ told c.args.prime c.least_root-root.ensures (to_z-of_z c.ranges.number)
+returns-in-Nothing c =
+    ap is_nothing (sym c.in-Nothing.is) ∙ told c.args.prime c.least_root-root.ensures (to_z-of_z c.ranges.number)
 
 pub returns-in_default : goal.returns-in_default
 unfolding is_nothing
-returns-in_default c = ap is_nothing (sym c.in_default.is) ∙ told c.args.prime c.least_root-root.ensures (to_z-of_z c.ranges.number)
+returns-in_default c =
+    ap is_nothing (sym c.in_default.is) ∙ told c.args.prime c.least_root-root.ensures (to_z-of_z c.ranges.number)

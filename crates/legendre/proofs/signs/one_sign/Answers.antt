@@ -1,4 +1,5 @@
--- `legendre::signs::one_sign` meets its contract: the three are of one sign where the first two and the last two are. Assumes nothing.
+-- `legendre::signs::one_sign` meets its contract: the three are of one sign where the first two and the last two are.
+-- Assumes nothing.
 use mathlib.Core.Path.{◌≡◌, sym, ap, ap₂, ◌∙◌}
 use mathlib.Core.Bool.{Bool, ◌&&◌}
 use mir.Facts.{to_z-of_z}

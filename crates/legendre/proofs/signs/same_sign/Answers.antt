@@ -1,4 +1,5 @@
--- `legendre::signs::same_sign` meets its contract: its three ways are the three signs of the first number. Assumes nothing.
+-- `legendre::signs::same_sign` meets its contract: its three ways are the three signs of the first number.
+-- Assumes nothing.
 use mathlib.Core.Path.{◌≡◌, ap, ◌∙◌}
 use mathlib.Core.Bool.{true, false}
 use lib.IntN.{ℤ, pos}
@@ -11,20 +12,17 @@ use Rattle.legendre.proofs.signs.same_sign.Goals as goal
 
 pub returns-then-a-gt0 : goal.returns-then-a-gt0
 returns-then-a-gt0 c =
-    let s = c.before in
-    let above : lt_z (pos 0) s.args.a ≡ true = tells (search (ranges, tests)) tt c.if-a-gt0.true in
-    ap (lt_z (pos 0)) (to_z-of_z s.ranges.b) ∙ same_above s.args.a s.args.b above
+    let above : lt_z (pos 0) c.args.a ≡ true = tells (search (ranges, tests)) tt c.if-a-gt0.true in
+    ap (lt_z (pos 0)) (to_z-of_z c.ranges.b) ∙ same_above c.args.a c.args.b above
 
 pub returns-then-a-lt0 : goal.returns-then-a-lt0
 returns-then-a-lt0 c =
-    let s = c.before.before in
-    let not_above : lt_z (pos 0) s.args.a ≡ false = tells (search (ranges, tests)) tt c.if-a-gt0.false in
-    let below : lt_z s.args.a (pos 0) ≡ true = tells (search (ranges, tests)) tt c.if-a-lt0.true in
-    ap (λ (n : ℤ). lt_z n (pos 0)) (to_z-of_z s.ranges.b) ∙ same_below s.args.a s.args.b not_above below
+    let not_above : lt_z (pos 0) c.args.a ≡ false = tells (search (ranges, tests)) tt c.if-a-gt0.false in
+    let below : lt_z c.args.a (pos 0) ≡ true = tells (search (ranges, tests)) tt c.if-a-lt0.true in
+    ap (λ (n : ℤ). lt_z n (pos 0)) (to_z-of_z c.ranges.b) ∙ same_below c.args.a c.args.b not_above below
 
 pub returns-else-a-lt0 : goal.returns-else-a-lt0
 returns-else-a-lt0 c =
-    let s = c.before.before in
-    let not_above : lt_z (pos 0) s.args.a ≡ false = tells (search (ranges, tests)) tt c.if-a-gt0.false in
-    let not_below : lt_z s.args.a (pos 0) ≡ false = tells (search (ranges, tests)) tt c.if-a-lt0.false in
-    same_zero s.args.a s.args.b not_above not_below
+    let not_above : lt_z (pos 0) c.args.a ≡ false = tells (search (ranges, tests)) tt c.if-a-gt0.false in
+    let not_below : lt_z c.args.a (pos 0) ≡ false = tells (search (ranges, tests)) tt c.if-a-lt0.false in
+    same_zero c.args.a c.args.b not_above not_below

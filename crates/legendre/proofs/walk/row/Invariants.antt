@@ -1,18 +1,7 @@
--- `legendre::walk::row` meets its contract. The invariant: no solution with this W has a smaller X, and X is at most one past the root of
--- |gq|. The measure is the way of X to its limit. Assumes nothing.
-use mathlib.Core.Path.{◌≡◌, ap, subst₃, ◌∙◌}
-use Prim.Native.Nat.{ℕ, ◌+◌, ◌-◌, ◌*◌, ◌^◌, ◌≤◌}
-use native.Mathlib.Nat.{le_trans, mul-le-mul}
-use native.Mathlib.Omega.{arith}
-use lib.IntN.{ℤ, nat_abs, ◌*ℤ◌}
-use mir.Syntax.{w64}
-use mir.Val.{to_z}
-use mir.Facts.{to_z-of_z}
-use Rattle.legendre.specs.Search.{FirstInRow}
-use Rattle.legendre.specs.declared.walk.Found.TheVariants.{At}
-use Rattle.legendre.proofs.MachineProducts.{product_fits, product_is}
-use Rattle.legendre.proofs.Reach.{gq_small, root_small}
-use Rattle.legendre.proofs.Walks.{NoneBefore, row_start, row_next, row_end}
+-- The loop of `legendre::walk::row`. The invariant: no solution with this W has a smaller X, and X is at most 2³⁰ + 1. The
+-- measure is the way of X to that limit. Assumes nothing.
+use Prim.Native.Nat.{ℕ, ◌+◌, ◌-◌, ◌^◌, ◌≤◌}
+use Rattle.legendre.proofs.Walks.{NoneBefore}
 use Rattle.legendre.proofs.walk.row.Given as goal
 
 -- one past the greatest X

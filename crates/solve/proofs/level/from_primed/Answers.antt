@@ -35,9 +35,6 @@ overflow_mul-result c = fits w64 (search (formSizes, sizes) depth 60 fits 9999) 
 pub overflow_mul-result-2 : goal.overflow_mul-result-2
 overflow_mul-result-2 c = fits w64 (search (formSizes, sizes) depth 60 fits 9999) tt
 
-pub overflow_mul-result-3 : goal.overflow_mul-result-3
-overflow_mul-result-3 c = fits w64 (search (formSizes, sizes) depth 60 fits 9999) tt
-
 pub overflow_mul-result-4 : goal.overflow_mul-result-4
 overflow_mul-result-4 c = fits w64 (search (formSizes, sizes) depth 60 fits 9999) tt
 
@@ -62,14 +59,8 @@ overflow_mul-result-8 c = fits w64 (search (formSizes, sizes) depth 60 fits 9999
 pub overflow_sub-result-2 : goal.overflow_sub-result-2
 overflow_sub-result-2 c = fits w64 (search (formSizes, sizes) depth 60 fits 9999) tt
 
-pub overflow_mul-result-9 : goal.overflow_mul-result-9
-overflow_mul-result-9 c = fits w64 (search (formSizes, sizes) depth 60 fits 9999) tt
-
 pub overflow_mul-result-10 : goal.overflow_mul-result-10
 overflow_mul-result-10 c = fits w64 (search (formSizes, sizes) depth 60 fits 9999) tt
-
-pub overflow_mul-result-11 : goal.overflow_mul-result-11
-overflow_mul-result-11 c = fits w64 (search (formSizes, sizes) depth 60 fits 9999) tt
 
 pub overflow_mul-result-12 : goal.overflow_mul-result-12
 overflow_mul-result-12 c = fits w64 (search (formSizes, sizes) depth 60 fits 9999) tt
@@ -79,9 +70,6 @@ overflow_mul-result-13 c = fits w64 (search (formSizes, sizes) depth 60 fits 999
 
 pub overflow_sub-result-3 : goal.overflow_sub-result-3
 overflow_sub-result-3 c = fits w64 (search (formSizes, sizes) depth 60 fits 9999) tt
-
-pub overflow_mul-result-14 : goal.overflow_mul-result-14
-overflow_mul-result-14 c = fits w64 (search (formSizes, sizes) depth 60 fits 9999) tt
 
 pub overflow_mul-result-15 : goal.overflow_mul-result-15
 overflow_mul-result-15 c = fits w64 (search (formSizes, sizes) depth 60 fits 9999) tt

@@ -15,7 +15,6 @@ use Rattle.number.specs.Square.{is_square}
 use Rattle.conic.specs.Form.{D}
 use Rattle.conic.proofs.Bounds.{formSizes}
 use Rattle.solve.specs.Solve.{is_square_number}
-use Rattle.solve.proofs.trial.has_square_discriminant.Goals.{After-discriminant-minus}
 use Rattle.solve.proofs.trial.has_square_discriminant.Goals as goal
 
 at_least_zero : (n : ℤ) → le_z (pos 0) n ≡ true → is_square (nat_abs n) ≡ is_square_number n
@@ -38,21 +37,22 @@ flag_is e r p = e.same r ∙ p
 pub overflow_sub-minus : goal.overflow_sub-minus
 overflow_sub-minus c = fits w64 (search (formSizes, sizes) depth 60 fits 9999) tt
 
-minus_is : (c : After-discriminant-minus) → to_z w64 (of_z w64 (pos 0 -ℤ to_z w64 (of_z w64 c.discriminant-minus.result))) ≡ neg_ℤ (D c.args.h)
-minus_is c = reads (search (formSizes, sizes) depth 60 fits 9999) tt refl ∙ +ℤ_idl (neg_ℤ (D c.args.h))
-
 pub returns-then-minus-ge0 : goal.returns-then-minus-ge0
 returns-then-minus-ge0 c =
-    let magnitude = c.before in
-    let then = magnitude.before in
-    let h = then.args.h in
-    let told : le_z (pos 0) (pos 0 -ℤ D h) ≡ true = tells (search (formSizes, tests) depth 60 fits 9999) tt then.if-minus-ge0.true in
+    let h = c.args.h in
+    let told : le_z (pos 0) (pos 0 -ℤ D h) ≡ true =
+    tells (search (formSizes, tests) depth 60 fits 9999) tt c.if-minus-ge0.true in
+    let minus_is : to_z w64 (of_z w64 (pos 0 -ℤ to_z w64 (of_z w64 c.discriminant-minus.result))) ≡ neg_ℤ (D h) =
+    reads (search (formSizes, sizes) depth 60 fits 9999) tt refl ∙ +ℤ_idl (neg_ℤ (D h)) in
     c.is_square.ensures
-    ∙ ap is_square (magnitude.magnitude.ensures ∙ ap nat_abs (minus_is then.before))
+    ∙ ap is_square (c.magnitude.ensures ∙ ap nat_abs minus_is)
     ∙ at_least_zero (neg_ℤ (D h)) (turned (D h) told)
 
 pub returns-else-minus-ge0 : goal.returns-else-minus-ge0
 returns-else-minus-ge0 c =
     let h = c.args.h in
-    let told : le_z (pos 0) (pos 0 -ℤ D h) ≡ false = tells (search (formSizes, tests) depth 60 fits 9999) tt c.if-minus-ge0.false in
-    flag_is (search (formSizes, tests) depth 60 fits 9999) tt told ∙ sym (turned (D h) told) ∙ below_zero (neg_ℤ (D h)) (turned (D h) told)
+    let told : le_z (pos 0) (pos 0 -ℤ D h) ≡ false =
+    tells (search (formSizes, tests) depth 60 fits 9999) tt c.if-minus-ge0.false in
+    flag_is (search (formSizes, tests) depth 60 fits 9999) tt told
+    ∙ sym (turned (D h) told)
+    ∙ below_zero (neg_ℤ (D h)) (turned (D h) told)

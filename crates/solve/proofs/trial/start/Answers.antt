@@ -52,9 +52,6 @@ overflow_cast-root c = let small = root_at_most c in fits w64 (search casts dept
 pub overflow_sub-result : goal.overflow_sub-result
 overflow_sub-result c = let small = root_at_most c in fits w64 (search casts depth 60 fits 9999) tt
 
-pub overflow_mul-result : goal.overflow_mul-result
-overflow_mul-result c = fits w64 (search casts depth 60 fits 9999) tt
-
 pub returns : goal.returns
 returns c =
     let small = root_at_most c in

@@ -1,4 +1,5 @@
--- `solve::trial::trial_line` meets its contract: each line is returned where those before it have L(S, T) = 0. Assumes nothing.
+-- `solve::trial::trial_line` meets its contract: each line is returned where those before it have L(S, T) = 0.
+-- Assumes nothing.
 use mathlib.Core.Path.{◌≡◌, sym, ap, ◌∙◌}
 use borrow.Author.Rules.{sfits_of}
 use Rattle.point.specs.Paper.{is_zero}
@@ -6,7 +7,7 @@ use Rattle.point.proofs.Passed.{passed}
 use Rattle.conic.specs.Form.{L}
 use Rattle.solve.specs.Solve.{first_line, second_line}
 use Rattle.solve.proofs.Entries.{first_line_lem, second_line_lem, third_line_lem}
-use Rattle.solve.proofs.trial.trial_line.Goals.{After-is_zero, After-is_zero-2, Else-not-is_zero}
+use Rattle.solve.proofs.trial.trial_line.Goals.{After-is_zero, After-is_zero-2}
 use Rattle.solve.proofs.trial.trial_line.Goals as goal
 
 first_tested : (c : After-is_zero) → is_zero (L c.args.h c.args.s first_line) ≡ c.is_zero.result

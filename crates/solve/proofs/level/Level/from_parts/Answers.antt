@@ -14,7 +14,7 @@ use Rattle.point.specs.Normal.{largest}
 use Rattle.point.proofs.Passed.{factors}
 use Rattle.solve.specs.Level.{level_from}
 use Rattle.solve.specs.declared.level.Level.{Level}
-use Rattle.solve.proofs.level.Level.from_parts.Goals.{After-gcd-g, Start}
+use Rattle.solve.proofs.level.Level.from_parts.Goals.{After-gcd-g}
 use Rattle.solve.proofs.level.Level.from_parts.Goals as goal
 
 same_level : {v w : Level} → v.p ≡ w.p → v.g ≡ w.g → v.q ≡ w.q → v.s ≡ w.s → v.t ≡ w.t → v ≡ w
@@ -26,20 +26,19 @@ unfolding level_from
 written_out d e s t e_is = ap (λ (g : ℕ). record { p = quot_z d (pos g); g = pos g; q = quot_z e (pos g); s = pos s; t = pos t }) e_is
 
 module _ (c : After-gcd-g) where
-  abbrev start : Start
-  start = c.before.before.before
-
-  g_is : c.gcd-g.result ≡ gcd_of (nat_abs start.args.d) (nat_abs start.args.e)
+  g_is : c.gcd-g.result ≡ gcd_of (nat_abs c.args.d) (nat_abs c.args.e)
   g_is = search factors depth 60 fits 9999
 
-  d_positive : 0 < nat_abs start.args.d
-  d_positive = pos_of_ne-zero (λ e. start.requires.d_not_zero (nat_abs_zero start.args.d e))
+  d_positive : 0 < nat_abs c.args.d
+  d_positive = pos_of_ne-zero (λ e. c.requires.d_not_zero (nat_abs_zero c.args.d e))
 
   g_positive : 0 < c.gcd-g.result
-  g_positive = rw g_is (pos_of_dvd_of_pos (gcd_divides_left (nat_abs start.args.d) (nat_abs start.args.e)) d_positive)
+  g_positive = rw g_is (pos_of_dvd_of_pos (gcd_divides_left (nat_abs c.args.d) (nat_abs c.args.e)) d_positive)
 
   g_small : c.gcd-g.result ≤ largest
-  g_small = rw g_is (le_trans (le_of_dvd d_positive (gcd_divides_left (nat_abs start.args.d) (nat_abs start.args.e))) start.requires.d_within)
+  g_small =
+      rw g_is
+      (le_trans (le_of_dvd d_positive (gcd_divides_left (nat_abs c.args.d) (nat_abs c.args.e))) c.requires.d_within)
 
 pub returns : goal.returns
 returns c =
@@ -60,9 +59,3 @@ nonzero_div-result c = let small = g_small c in (g_positive c, fits w64 (search 
 
 pub nonzero_div-result-2 : goal.nonzero_div-result-2
 nonzero_div-result-2 c = let small = g_small c in (g_positive c, fits w64 (search casts depth 60 fits 9999) tt)
-
-pub overflow_cast-result : goal.overflow_cast-result
-overflow_cast-result c = fits w64 (search casts depth 60 fits 9999) tt
-
-pub overflow_cast-result-2 : goal.overflow_cast-result-2
-overflow_cast-result-2 c = fits w64 (search casts depth 60 fits 9999) tt
