@@ -85,9 +85,9 @@ same_point p q e =
     ∙ tails (tails e)
     ∙ regroup (signed_decimal q.x) (signed_decimal q.y) (signed_decimal q.z)
     in
-    let (x, after-x) = same_signed p.x q.x (lit≤ tt) (lit≤ tt) numbers in
-    let (y, after-y) = same_signed p.y q.y (lit≤ tt) (lit≤ tt) after-x in
-    let (z, after-z) = same_signed p.z q.z (lit≤ tt) (lit≤ tt) after-y in
+    let (x, after_x) = same_signed p.x q.x (lit≤ tt) (lit≤ tt) numbers in
+    let (y, after_y) = same_signed p.y q.y (lit≤ tt) (lit≤ tt) after_x in
+    let (z, after_z) = same_signed p.z q.z (lit≤ tt) (lit≤ tt) after_y in
     λ i. record { x = x i; y = y i; z = z i }
 
 pub row_tells_answer : RowTellsAnswer

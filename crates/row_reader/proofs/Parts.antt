@@ -62,10 +62,10 @@ too_many h k n (some m) (some ns) few = simp (ne_eqb (k + suc (suc (length ns)))
 joined : Place → Option ℤ → List (List ℕ) → Option Conic
 joined p o parts = after_all p.numbers p.count (and_then o (read_numbers parts))
 
-after_space_lem : (p : Place) (part : List ℕ) (parts : List (List ℕ)) → Legal p →
+whole_at_space : (p : Place) (part : List ℕ) (parts : List (List ℕ)) → Legal p →
     reader_whole (after_space p) part parts ≡ whole_from p [] (part ∷ parts)
 unfolding after_space fresh whole_from joined read_numbers after_all and_then
-after_space_lem p part parts h = by_test (eqb p.digits 0) none_read (λ e. by_test (leb 5 p.count) (full e) (next e))
+whole_at_space p part parts h = by_test (eqb p.digits 0) none_read (λ e. by_test (leb 5 p.count) (full e) (next e))
   where
     with_number : eqb p.digits 0 ≡ false → joined p (some (current p)) (part ∷ parts) ≡ whole_from p [] (part ∷ parts)
     with_number e = ap (λ (o : Option ℤ). joined p o (part ∷ parts)) (sym (ended p h e))
@@ -87,10 +87,10 @@ after_space_lem p part parts h = by_test (eqb p.digits 0) none_read (λ e. by_te
         ∙ push p.numbers p.count (current p) (and_then (read_number part) (read_numbers parts))
         ∙ with_number e)
 
-after_minus_lem : (p : Place) (b : ℕ) (part : List ℕ) (parts : List (List ℕ)) → eqb b minus ≡ true →
+whole_at_minus : (p : Place) (b : ℕ) (part : List ℕ) (parts : List (List ℕ)) → eqb b minus ≡ true →
     reader_whole (after_minus p) part parts ≡ whole_from p (b ∷ part) parts
 unfolding after_minus whole_from joined after_all and_then is_digit
-after_minus_lem p b part parts is_minus = by_test p.negative second (λ e. by_test (eqb p.digits 0) (first e) (late e))
+whole_at_minus p b part parts is_minus = by_test p.negative second (λ e. by_test (eqb p.digits 0) (first e) (late e))
   where
     not_digit : more_digits p.digits p.value (b ∷ part) ≡ none
     not_digit = not_a_digit p.digits p.value b part (subst (λ (n : ℕ). is_digit n ≡ false) (sym (eqb-true b minus is_minus)) refl)
@@ -119,10 +119,10 @@ after_minus_lem p b part parts is_minus = by_test p.negative second (λ e. by_te
         in
         taken ∙ ap (λ (o : Option ℤ). joined p o parts) (only_digits true p.digits p.value part refl ∙ same)
 
-after_digit_lem : (p : Place) (b : ℕ) (part : List ℕ) (parts : List (List ℕ)) → eqb b minus ≡ false → is_digit b ≡ true →
+whole_at_digit : (p : Place) (b : ℕ) (part : List ℕ) (parts : List (List ℕ)) → eqb b minus ≡ false → is_digit b ≡ true →
     reader_whole (after_digit p b) part parts ≡ whole_from p (b ∷ part) parts
 unfolding after_digit whole_from joined after_all and_then
-after_digit_lem p b part parts not_minus digit = by_test (leb 6 p.digits) seventh (λ e. more e)
+whole_at_digit p b part parts not_minus digit = by_test (leb 6 p.digits) seventh (λ e. more e)
   where
     seventh : leb 6 p.digits ≡ true → reader_whole (after_digit p b) part parts ≡ whole_from p (b ∷ part) parts
     seventh e =
@@ -174,13 +174,13 @@ each_byte (Reader.Reading p) b part parts h =
     leads e = ap (λ (r : Reader). reader_whole r part parts) e
 
     at_space : eqb b space ≡ true → reader_whole (step_of p b) part parts ≡ whole_from p [] (part ∷ parts)
-    at_space e = let step : step_of p b ≡ after_space p = simp e in leads step ∙ after_space_lem p part parts h
+    at_space e = let step : step_of p b ≡ after_space p = simp e in leads step ∙ whole_at_space p part parts h
 
     at_minus : eqb b space ≡ false → eqb b minus ≡ true → reader_whole (step_of p b) part parts ≡ whole_from p (b ∷ part) parts
-    at_minus e f = let step : step_of p b ≡ after_minus p = simp (e, f) in leads step ∙ after_minus_lem p b part parts f
+    at_minus e f = let step : step_of p b ≡ after_minus p = simp (e, f) in leads step ∙ whole_at_minus p b part parts f
 
     at_digit : eqb b space ≡ false → eqb b minus ≡ false → is_digit b ≡ true → reader_whole (step_of p b) part parts ≡ whole_from p (b ∷ part) parts
-    at_digit e f g = let step : step_of p b ≡ after_digit p b = simp (e, f, g) in leads step ∙ after_digit_lem p b part parts f g
+    at_digit e f g = let step : step_of p b ≡ after_digit p b = simp (e, f, g) in leads step ∙ whole_at_digit p b part parts f g
 
     at_other : eqb b space ≡ false → eqb b minus ≡ false → is_digit b ≡ false → reader_whole (step_of p b) part parts ≡ whole_from p (b ∷ part) parts
     at_other e f g = let step : step_of p b ≡ Reader.Broken = simp (e, f, g) in leads step ∙ after_other p b part parts f g

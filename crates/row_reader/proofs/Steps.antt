@@ -32,13 +32,6 @@ value_below {p} h =
     let most : 10 ^ p.digits ≤ 10 ^ 6 = pow-le-pow_right (lit< tt) h.digits_within in
     omega (arith, h.value_within)
 
--- before another digit is taken there are five at most
-pub value_before_digit : {p : Place} → Legal p → p.digits < 6 → p.value < 100_000
-value_before_digit {p} h few =
-    let five : p.digits ≤ 5 = omega arith in
-    let most : 10 ^ p.digits ≤ 10 ^ 5 = pow-le-pow_right (lit< tt) five in
-    omega (arith, h.value_within)
-
 -- ---- each step
 
 fresh_legal : (h : Conic) (n : ℕ) → Legal (fresh h n)

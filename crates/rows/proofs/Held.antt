@@ -1,29 +1,18 @@
 -- The bytes that a cutter holds: as many as its row has, at most 48; and the last row's answer, which is nothing where none is held.
 -- Assumes nothing.
 use mathlib.Core.List.{List, [], ◌∷◌, append-nil}
-use mathlib.Core.Path.{◌≡◌, ap, sym, ◌∙◌}
+use mathlib.Core.Path.{◌≡◌}
 use Prim.Native.Nat.{ℕ, ◌≤◌, ◌<◌, min}
-use native.Mathlib.Decide.{dec_le}
-use native.Mathlib.Nat.{min-eq_left, min-eq_right}
 use native.Mathlib.Omega.{arith}
 use borrow.Author.Tests.{lt-ltb, le-ltb}
 use lib.ListN.{length, take, length-take}
-use lib.Seq.{take_all, take-length}
+use Rattle.std.proofs.lemmas.List.{take_min}
 use Rattle.point.specs.declared.paper.Refusal.TheVariants as Refusal
 use Rattle.row.specs.Row.{row_of, buffer_limit, too_short, RowPromise}
 use Rattle.row.specs.declared.Written.{Written}
 use Rattle.rows.specs.Cutter.{holding, held_text, finish_of, FinishPromise}
 use Rattle.rows.specs.Input.{answers, last_row}
 use Rattle.rows.specs.declared.Cutter.{Cutter}
-
-take_min : (n : ℕ) (l : List ℕ) → take (min n (length l)) l ≡ take n l
-take_min n l = go (dec_le n (length l))
-  where
-    go : Dec (n ≤ length l) → take (min n (length l)) l ≡ take n l
-    go (yes h) = rw (min-eq_left h)
-    go (no h) =
-        let over : length l ≤ n = omega arith in
-        ap (λ (k : ℕ). take k l) (min-eq_right over) ∙ take-length l ∙ sym (take_all n l over)
 
 pub held_is : (c : Cutter) → length c.held ≡ holding → take (min c.length holding) c.held ≡ held_text c
 unfolding held_text
@@ -33,10 +22,10 @@ held_size : (c : Cutter) → length c.held ≡ holding → length (held_text c) 
 unfolding held_text
 held_size c e = rw (← e) (length-take c.length c.held)
 
-pub last_row_lem : (text : List ℕ) → 0 < length text → answers (last_row text) ≡ row_of text
+pub last_row_answered : (text : List ℕ) → 0 < length text → answers (last_row text) ≡ row_of text
 unfolding answers last_row
-last_row_lem [] h = absurd (omega arith)
-last_row_lem (b ∷ text) h = append-nil (row_of (b ∷ text))
+last_row_answered [] h = absurd (omega arith)
+last_row_answered (b ∷ text) h = append-nil (row_of (b ∷ text))
 
 -- ---- the last row
 
@@ -59,7 +48,7 @@ pub finish_row :
     RowPromise (held_text c) before r left → FinishPromise c before r left
 unfolding finish_of
 finish_row c before r left e n p =
-    let f : finish_of c ≡ row_of (held_text c) = last_row_lem (held_text c) (omega (arith, held_size c e)) in
+    let f : finish_of c ≡ row_of (held_text c) = last_row_answered (held_text c) (omega (arith, held_size c e)) in
     record {
       answer = rw f p.answer;
       buffer = rw f p.buffer;

@@ -18,7 +18,7 @@ use Rattle.row.specs.Writing.{row_text}
 use Rattle.rows.specs.Cutter.{holding, keep, emptied, held_text}
 use Rattle.rows.specs.Input.{answers, last_row}
 use Rattle.rows.specs.declared.Cutter.{Cutter}
-use Rattle.rows.proofs.Held.{last_row_lem}
+use Rattle.rows.proofs.Held.{last_row_answered}
 
 pub record Holds (c : Cutter) (text : List ℕ) : Type 0 where
   pub size : length c.held ≡ holding
@@ -76,9 +76,9 @@ first_bytes text = go (dec_le (length text) holding)
 first_last : (text : List ℕ) → answers (last_row (take holding text)) ≡ answers (last_row text)
 first_last [] = refl
 first_last (b ∷ text) =
-    last_row_lem (take holding (b ∷ text)) (omega (arith, length-take holding (b ∷ text)))
+    last_row_answered (take holding (b ∷ text)) (omega (arith, length-take holding (b ∷ text)))
     ∙ first_bytes (b ∷ text)
-    ∙ sym (last_row_lem (b ∷ text) (omega arith))
+    ∙ sym (last_row_answered (b ∷ text) (omega arith))
 
 module _ (c : Cutter) (text : List ℕ) (h : Holds c text) where
   pub same_row : row_of (held_text c) ≡ row_of text

@@ -25,9 +25,6 @@ at_end text r i h = rw (drop_of_length-le text h)
 pub loop-i-init : goal.loop-i-init
 loop-i-init c = (legal_start, zero-le, steps_read c.args.text.now)
 
-pub step-reader-requires : goal.step-reader-requires
-step-reader-requires c = c.loop-i.invariant.0
-
 pub loop-i-preserved : goal.loop-i-preserved
 loop-i-preserved c =
     let text = c.args.text.now in
@@ -39,9 +36,6 @@ loop-i-preserved c =
           ∙ sym (ap reader_end (one_step text reader i c.loop-i-test.true))
           ∙ c.loop-i.invariant.2,
     )
-
-pub end-requires : goal.end-requires
-end-requires c = c.loop-i.invariant.0
 
 pub returns : goal.returns
 returns c =

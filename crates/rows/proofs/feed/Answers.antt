@@ -14,13 +14,15 @@ loop-taken-preserved c =
     elim c.if-b-eq-LINE_FEED.branch [
       | then-b-eq-LINE_FEED+in-Length w ↦
           rw (w.out-is, w.current-is, w.written-is, w.emptied-current.ensures)
-          (answered _ _ _ loop.current loop.taken loop.written loop.out loop.invariant c.loop-taken-test.true w.if-b-eq-LINE_FEED.true
+          (answered _ _ _ loop.current loop.taken loop.written loop.out loop.invariant c.loop-taken-test.true
+          w.if-b-eq-LINE_FEED.true
           w.in-Length.n
           _
-          (row_call _ _ loop.invariant.written_within _ _ w.answer.result w.in-Length.n w.in-Length.is w.answer.ensures w.answer.auto.out))
+          (row_call _ _ loop.invariant.written_within _ _ w.answer.result _ w.in-Length.is w.answer.ensures w.answer.auto.out))
       | else-b-eq-LINE_FEED w ↦
           rw (w.out-is, w.current-is, w.written-is, w.keep-current.ensures)
-          (kept _ _ _ loop.current loop.taken loop.written loop.out loop.invariant c.loop-taken-test.true w.if-b-eq-LINE_FEED.false)
+          (kept _ _ _ loop.current loop.taken loop.written loop.out loop.invariant c.loop-taken-test.true
+          w.if-b-eq-LINE_FEED.false)
     ]
 
 pub returns-after-loop-taken : goal.returns-after-loop-taken

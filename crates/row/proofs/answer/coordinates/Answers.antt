@@ -90,12 +90,18 @@ spaced-after_z-requires c =
 pub byte-requires : goal.byte-requires
 byte-requires c =
     let p = c.args.p in
-    let w = point_written p (search rules) (search rules) (search rules) c.byte-at.ensures c.spaced-after_x.ensures c.spaced-after_y.ensures c.spaced-after_z.ensures in
+    let w =
+    point_written p (search rules) (search rules) (search rules) c.byte-at.ensures c.spaced-after_x.ensures
+    c.spaced-after_y.ensures c.spaced-after_z.ensures
+    in
     room_after (up_to_z p) (line_feed ∷ []) w (room _ _ c.requires)
 
 pub returns : goal.returns
 unfolding row_text
 returns c =
     let p = c.args.p in
-    let w = point_written p (search rules) (search rules) (search rules) c.byte-at.ensures c.spaced-after_x.ensures c.spaced-after_y.ensures c.spaced-after_z.ensures in
+    let w =
+    point_written p (search rules) (search rules) (search rules) c.byte-at.ensures c.spaced-after_x.ensures
+    c.spaced-after_y.ensures c.spaced-after_z.ensures
+    in
     wrote_both w c.byte.ensures
