@@ -83,10 +83,10 @@ unfolding layout_holds
 layout_right book =
     let n = count_of book in (
       λ e.
-          let (to-entries, ends) = (and-eq-true_iff _ _).0 e in
-          let (to-limit, entries) = (and-eq-true_iff _ _).0 to-entries in
-          let (to-contents, limit) = (and-eq-true_iff _ _).0 to-limit in
-          let (count, contents) = (and-eq-true_iff _ _).0 to-contents in
+          let (to_entries, ends) = (and-eq-true_iff _ _).0 e in
+          let (to_limit, entries) = (and-eq-true_iff _ _).0 to_entries in
+          let (to_contents, limit) = (and-eq-true_iff _ _).0 to_limit in
+          let (count, contents) = (and-eq-true_iff _ _).0 to_contents in
           record {
             has_count = leb-true 2 (length book) count;
             has_contents = leb-true (2 + 3 * n) (length book) contents;

@@ -81,7 +81,7 @@ entry_broken book i below fails =
     (λ least. by_test (leb k 4)
     (λ most. wrong_offset i below (offset_decides (leb-true 1 k least) (leb-true k 4 most)))
     (λ above. wrong_kind i below (λ between. let out = leb-false k 4 above in absurd (omega arith))))
-    (λ zero-kind. wrong_kind i below (λ between. let out = leb-false 1 k zero-kind in absurd (omega arith)))
+    (λ zero_kind. wrong_kind i below (λ between. let out = leb-false 1 k zero_kind in absurd (omega arith)))
 
 broken_of_test : (book : List ℕ) → layout_holds book ≡ false → BrokenLayout book
 broken_of_test book e =

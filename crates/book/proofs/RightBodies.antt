@@ -44,9 +44,9 @@ legal_point : (h : Conic) (p : Point) → is_right_point h p ≡ true ↔ Legal 
 unfolding is_right_point
 legal_point h p = (
   λ e.
-      let (to-base, on) = (and-eq-true_iff (in_range h && not (is_zero (Δ h)) && is_base p) (is_zero (G h p))).0 e in
-      let (to-zero, base) = (and-eq-true_iff (in_range h && not (is_zero (Δ h))) (is_base p)).0 to-base in
-      let (range, delta) = (and-eq-true_iff (in_range h) (not (is_zero (Δ h)))).0 to-zero in
+      let (to_base, on) = (and-eq-true_iff (in_range h && not (is_zero (Δ h)) && is_base p) (is_zero (G h p))).0 e in
+      let (to_zero, base) = (and-eq-true_iff (in_range h && not (is_zero (Δ h))) (is_base p)).0 to_base in
+      let (range, delta) = (and-eq-true_iff (in_range h) (not (is_zero (Δ h)))).0 to_zero in
       record {
         non_degenerate = record { in_range = T-of-true range; not_zero = λ degenerate. not_true_of_false (not-true _ delta) (is_zero_iff.1 degenerate) };
         base = base;

@@ -1,5 +1,5 @@
--- `book_reader::bodies_hold` meets its contract: by the layout each body lies in the book, and the test of a turn is that of the
--- definition. Assumes nothing.
+-- `book_reader::bodies_hold` meets its contract: by the layout each body lies in the book, and the test of a turn
+-- is that of the definition. Assumes nothing.
 use mathlib.Core.Bool.{Bool}
 use mathlib.Core.List.{List}
 use mathlib.Core.Path.{◌≡◌, refl, sym, ap, ap₂, ◌∙◌}
@@ -33,15 +33,17 @@ is_right-requires c =
 
 -- the test of a turn is that of the definition
 test_is :
-    (book : List ℕ) (i : ℕ) {kind at : ℕ} {t : Bool} → kind ≡ kind_at book i → at ≡ bodies_end book i → t ≡ is_right kind book at →
+    (book : List ℕ) (i : ℕ) {kind at : ℕ} {t : Bool} → kind ≡ kind_at book i → at ≡ bodies_end book i →
+    t ≡ is_right kind book at →
     body_holds book i ≡ t
 unfolding body_holds
 test_is book i kind at test = sym (test ∙ ap₂ (λ (k a : ℕ). is_right k book a) kind at)
 
 pub returns-then-not-is_right : goal.returns-then-not-is_right
 returns-then-not-is_right c =
-    let fails = test_is c.args.book.now c.loop-i.i c.kind_at-kind.ensures c.loop-i.invariant.2 c.if-not-is_right.ensures in
-    sym (every_fails (body_holds c.args.book.now) c.args.count c.loop-i-test.true fails)
+    let book = c.args.book.now in
+    let fails = test_is book c.loop-i.i c.kind_at-kind.ensures c.loop-i.invariant.2 c.if-not-is_right.ensures in
+    sym (every_fails (body_holds book) c.args.count c.loop-i-test.true fails)
 
 pub body_length-at-requires : goal.body_length-at-requires
 body_length-at-requires c =
@@ -52,7 +54,9 @@ body_length-at-requires c =
 pub overflow_add-at-in-loop-i : goal.overflow_add-at-in-loop-i
 overflow_add-at-in-loop-i c =
     let right = (layout_right c.args.book.now).0 c.requires.1 in
-    omega (arith, c.loop-i.invariant.2, end_at_most c.args.book.now c.loop-i.i, length_at_most c.kind_at-kind.result, c.body_length-at.ensures)
+    let end = end_at_most c.args.book.now c.loop-i.i in
+    let most = length_at_most c.kind_at-kind.result in
+    omega (arith, c.loop-i.invariant.2, end, most, c.body_length-at.ensures)
 
 pub loop-i-preserved : goal.loop-i-preserved
 loop-i-preserved c =
@@ -61,5 +65,6 @@ loop-i-preserved c =
     let holds = test_is book i c.kind_at-kind.ensures c.loop-i.invariant.2 c.if-not-is_right.ensures in (
       omega arith,
       every_more (body_holds book) i c.loop-i.invariant.1 holds,
-      ap₂ ◌+◌ c.loop-i.invariant.2 (c.body_length-at.ensures ∙ ap body_length c.kind_at-kind.ensures) ∙ sym (end_more book i),
+      ap₂ ◌+◌ c.loop-i.invariant.2 (c.body_length-at.ensures ∙ ap body_length c.kind_at-kind.ensures)
+          ∙ sym (end_more book i),
     )

@@ -1,4 +1,5 @@
--- Between two turns of `book_reader::bodies_hold` the bodies before i are right, and they end at `at`. Assumes nothing.
+-- Between two turns of `book_reader::bodies_hold` the bodies before i are right, and they end at `at`. Assumes
+-- nothing.
 use mathlib.Core.Bool.{true}
 use mathlib.Core.Path.{◌≡◌}
 use Prim.Native.Nat.{◌-◌, ◌≤◌}

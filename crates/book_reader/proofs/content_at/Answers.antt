@@ -1,4 +1,5 @@
--- `book_reader::content_at` meets its contract: the entry's offset is where its body is, by the layout. Assumes nothing.
+-- `book_reader::content_at` meets its contract: the entry's offset is where its body is, by the layout. Assumes
+-- nothing.
 use mathlib.Core.List.{List}
 use mathlib.Core.Path.{◌≡◌, sym, ap, ap₂, ◌∙◌}
 use Prim.Native.Nat.{ℕ, ◌+◌, ◌≤◌, ◌<◌}
@@ -13,12 +14,13 @@ use Rattle.book.proofs.Contents.{LayoutRight, layout_right, body_within}
 use Rattle.book_reader.proofs.content_at.Goals as goal
 
 -- a body starts at the offset of its entry, and a body of a known kind lies in the book
-module _ {book : List ℕ} (right : LayoutRight book) {i : ℕ} (below : i < count_of book) {at : ℕ} (read : at ≡ offset_at book i) where
+module _
+    {book : List ℕ} (right : LayoutRight book) {i at : ℕ} (low : i < count_of book) (read : at ≡ offset_at book i) where
   starts : at ≡ bodies_end book i
-  starts = read ∙ (right.entries i below).offset
+  starts = read ∙ (right.entries i low).offset
 
   within : at + body_length (kind_at book i) ≤ length book
-  within = rw starts (body_within right i below)
+  within = rw starts (body_within right i low)
 
   known : {r k : ℕ} → r ≡ kind_at book i → r ≡ k → at + body_length k ≤ length book
   known kind is = room at (length book) (sym kind ∙ is) within
@@ -39,7 +41,8 @@ pub conic_at-h-requires : goal.conic_at-h-requires
 conic_at-h-requires c =
     let right = (layout_right c.args.book.now).0 c.requires.0 in
     let entry = right.entries c.args.i c.requires.1 in
-    omega (arith, within right c.requires.1 c.two_at-at.ensures.0, length_at_least (kind_at c.args.book.now c.args.i) entry.kind_at_least entry.kind_at_most)
+    let least = length_at_least (kind_at c.args.book.now c.args.i) entry.kind_at_least entry.kind_at_most in
+    omega (arith, within right c.requires.1 c.two_at-at.ensures.0, least)
 
 pub kind_at-requires : goal.kind_at-requires
 kind_at-requires c = let right = (layout_right c.args.book.now).0 c.requires.0 in omega arith
@@ -59,9 +62,10 @@ unfolding content_of
 returns-in-1 c =
     let book = c.args.book.now in
     let right = (layout_right book).0 c.requires.0 in
+    let at = starts right c.requires.1 c.two_at-at.ensures.0 in
     content_of_kind book (bodies_end book c.args.i) (sym c.kind_at.ensures ∙ c.in-1.is)
     (ap₂ with_point (conic right c.requires.1 c.two_at-at.ensures.0 c.conic_at-h.ensures)
-    (c.point_at.ensures ∙ ap (λ (at : ℕ). point_at book (at + 6)) (starts right c.requires.1 c.two_at-at.ensures.0)))
+    (c.point_at.ensures ∙ ap (λ (n : ℕ). point_at book (n + 6)) at))
 
 pub returns-in-2 : goal.returns-in-2
 unfolding content_of
@@ -76,9 +80,10 @@ unfolding content_of
 returns-in-3 c =
     let book = c.args.book.now in
     let right = (layout_right book).0 c.requires.0 in
+    let at = starts right c.requires.1 c.two_at-at.ensures.0 in
     content_of_kind book (bodies_end book c.args.i) (sym c.kind_at.ensures ∙ c.in-3.is)
     (ap₂ with_none_by_prime (conic right c.requires.1 c.two_at-at.ensures.0 c.conic_at-h.ensures)
-    (c.four_at.ensures.0 ∙ ap (λ (at : ℕ). number_at 4 book (at + 6)) (starts right c.requires.1 c.two_at-at.ensures.0)))
+    (c.four_at.ensures.0 ∙ ap (λ (n : ℕ). number_at 4 book (n + 6)) at))
 
 pub returns-in_default : goal.returns-in_default
 unfolding content_of

@@ -1,5 +1,5 @@
--- `book_reader::entries_hold` meets its contract: an entry that holds has a kind, so the end of the bodies moves on as the definition
--- says; one that fails decides. Assumes nothing.
+-- `book_reader::entries_hold` meets its contract: an entry that holds has a kind, so the end of the bodies moves on
+-- as the definition says; one that fails decides. Assumes nothing.
 use mathlib.Core.Bool.{Bool, ◌&&◌}
 use mathlib.Core.Path.{refl, sym, ap, ap₂, ◌∙◌}
 use Prim.Native.Nat.{ℕ, ◌+◌, ◌*◌}
@@ -26,11 +26,14 @@ returns-then-not-entry_holds c =
 
 pub body_length-end-requires : goal.body_length-end-requires
 body_length-end-requires c =
-    omega (arith, c.kind_at.ensures, ((entry_right c.args.book.now c.loop-i.i).0 (sym c.if-not-entry_holds.ensures)).kind_at_most)
+    let right = (entry_right c.args.book.now c.loop-i.i).0 (sym c.if-not-entry_holds.ensures) in
+    omega (arith, c.kind_at.ensures, right.kind_at_most)
 
 pub overflow_add-end-in-loop-i : goal.overflow_add-end-in-loop-i
 overflow_add-end-in-loop-i c =
-    omega (arith, c.loop-i.invariant.2, end_at_most c.args.book.now c.loop-i.i, length_at_most c.kind_at.result, c.body_length-end.ensures)
+    let end = end_at_most c.args.book.now c.loop-i.i in
+    let most = length_at_most c.kind_at.result in
+    omega (arith, c.loop-i.invariant.2, end, most, c.body_length-end.ensures)
 
 pub loop-i-preserved : goal.loop-i-preserved
 loop-i-preserved c =
@@ -38,5 +41,6 @@ loop-i-preserved c =
     let i = c.loop-i.i in (
       omega arith,
       every_more (entry_holds book) i c.loop-i.invariant.1 (sym c.if-not-entry_holds.ensures),
-      ap₂ ◌+◌ c.loop-i.invariant.2 (c.body_length-end.ensures ∙ ap body_length c.kind_at.ensures) ∙ sym (end_more book i),
+      ap₂ ◌+◌ c.loop-i.invariant.2 (c.body_length-end.ensures ∙ ap body_length c.kind_at.ensures)
+          ∙ sym (end_more book i),
     )

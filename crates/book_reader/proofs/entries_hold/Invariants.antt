@@ -1,4 +1,5 @@
--- Between two turns of `book_reader::entries_hold` the entries before i hold, and their bodies end at `end`. Assumes nothing.
+-- Between two turns of `book_reader::entries_hold` the entries before i hold, and their bodies end at `end`.
+-- Assumes nothing.
 use mathlib.Core.Bool.{true}
 use mathlib.Core.Path.{◌≡◌}
 use Prim.Native.Nat.{◌-◌, ◌≤◌}

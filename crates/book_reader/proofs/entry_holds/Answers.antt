@@ -1,4 +1,5 @@
--- `book_reader::entry_holds` meets its contract: the code's tests are the definition's, one after the other. Assumes nothing.
+-- `book_reader::entry_holds` meets its contract: the code's tests are the definition's, one after the other.
+-- Assumes nothing.
 use mathlib.Core.Path.{ap₂, ◌∙◌}
 use native.Mathlib.Omega.{arith}
 use lib.Dec.{eqb}

@@ -1,4 +1,5 @@
--- `book_reader::is_right_point` meets its contract: a base is judged legal exactly if the point is right. Assumes nothing.
+-- `book_reader::is_right_point` meets its contract: a base is judged legal exactly if the point is right. Assumes
+-- nothing.
 use Rattle.book.proofs.Judged.{judged_legal, judged_refused}
 use Rattle.book_reader.proofs.is_right_point.Goals as goal
 

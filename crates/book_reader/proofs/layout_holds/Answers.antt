@@ -1,4 +1,5 @@
--- `book_reader::layout_holds` meets its contract: the code's tests are the definition's, one after the other. Assumes nothing.
+-- `book_reader::layout_holds` meets its contract: the code's tests are the definition's, one after the other.
+-- Assumes nothing.
 use mathlib.Core.Bool.{◌&&◌}
 use mathlib.Core.Path.{ap, ◌∙◌}
 use Prim.Native.Nat.{ℕ}

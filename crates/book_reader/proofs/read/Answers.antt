@@ -1,4 +1,5 @@
--- `book_reader::read` meets its contract: the code's tests are the definition's, one after the other. Assumes nothing.
+-- `book_reader::read` meets its contract: the code's tests are the definition's, one after the other. Assumes
+-- nothing.
 use mathlib.Core.Bool.{Bool}
 use mathlib.Core.List.{List}
 use mathlib.Core.Path.{◌≡◌, sym, ap, ◌∙◌}
@@ -31,12 +32,11 @@ returns-then-not-bodies_hold c =
 pub returns-then-number-count : goal.returns-then-number-count
 returns-then-number-count c =
     let hold = bodies c.args.book.now c.two_at-count.ensures.0 c.if-not-bodies_hold.ensures in
-    record { answer = sym (is_sixteen c.args.book.now c.args.number (sym c.if-not-layout_holds.ensures) hold (omega arith)) }
+    let layout = sym c.if-not-layout_holds.ensures in
+    record { answer = sym (is_sixteen c.args.book.now c.args.number layout hold (omega arith)) }
 
 pub returns : goal.returns
 returns c =
     let hold = bodies c.args.book.now c.two_at-count.ensures.0 c.if-not-bodies_hold.ensures in
-    record {
-      answer =
-          c.content_at.ensures ∙ sym (is_content c.args.book.now c.args.number (sym c.if-not-layout_holds.ensures) hold (omega arith));
-    }
+    let layout = sym c.if-not-layout_holds.ensures in
+    record { answer = c.content_at.ensures ∙ sym (is_content c.args.book.now c.args.number layout hold (omega arith)) }

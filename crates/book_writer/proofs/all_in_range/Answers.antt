@@ -1,5 +1,5 @@
--- `book_writer::all_in_range` meets its contract: a conic that is out of range decides, and one in range leaves those after it.
--- Assumes nothing.
+-- `book_writer::all_in_range` meets its contract: a conic that is out of range decides, and one in range leaves
+-- those after it. Assumes nothing.
 use mathlib.Core.Bool.{Bool, ◌&&◌}
 use mathlib.Core.List.{List}
 use mathlib.Core.Path.{◌≡◌, refl, sym, ap, ◌∙◌}
@@ -26,11 +26,13 @@ loop-at-init c = (refl, omega arith, ap all_in_range (after_all_lem c.args.list.
 
 pub returns-then-not-in_range : goal.returns-then-not-in_range
 returns-then-not-in_range c =
-    sym (c.loop-at.invariant.2 ∙ turned c.args.list.now c.loop-at.at (omega arith) c.conic_at.ensures c.if-not-in_range.ensures)
+    let fails = turned c.args.list.now c.loop-at.at (omega arith) c.conic_at.ensures c.if-not-in_range.ensures in
+    sym (c.loop-at.invariant.2 ∙ fails)
 
 pub loop-at-preserved : goal.loop-at-preserved
 loop-at-preserved c =
-    (omega arith, omega arith, c.loop-at.invariant.2 ∙ turned c.args.list.now c.loop-at.at (omega arith) c.conic_at.ensures c.if-not-in_range.ensures)
+    let holds = turned c.args.list.now c.loop-at.at (omega arith) c.conic_at.ensures c.if-not-in_range.ensures in
+    (omega arith, omega arith, c.loop-at.invariant.2 ∙ holds)
 
 pub returns : goal.returns
 returns c = sym (c.loop-at.invariant.2 ∙ range_none c.args.list.now c.loop-at.at c.loop-at-test.false)

@@ -1,5 +1,5 @@
--- Between two turns of `book_writer::all_in_range` the list is in range exactly if the conics that are left are: those passed are in
--- range. Assumes nothing.
+-- Between two turns of `book_writer::all_in_range` the list is in range exactly if the conics that are left are:
+-- those passed are in range. Assumes nothing.
 use mathlib.Core.Path.{◌≡◌}
 use Prim.Native.Nat.{◌-◌, ◌%◌, ◌≤◌}
 use lib.ListN.{length}
@@ -8,7 +8,9 @@ use Rattle.book.proofs.Listed.{conics_after}
 use Rattle.book_writer.proofs.all_in_range.Given as goal
 
 abbrev pub invariant-loop-at : goal.invariant-loop-at
-invariant-loop-at l = (l.at % 6 ≡ 0) × (l.at ≤ length l.list) × (all_in_range (conics_of l.list) ≡ all_in_range (conics_after l.list l.at))
+invariant-loop-at l =
+    (l.at % 6 ≡ 0) × (l.at ≤ length l.list) ×
+    (all_in_range (conics_of l.list) ≡ all_in_range (conics_after l.list l.at))
 
 abbrev pub decreases-loop-at : goal.decreases-loop-at
 decreases-loop-at l = length l.list - l.at

@@ -1,4 +1,5 @@
--- `book_writer::lacks_room` meets its contract: no book of so many conics is longer than 2 bytes and 21 for each. Assumes nothing.
+-- `book_writer::lacks_room` meets its contract: no book of so many conics is longer than 2 bytes and 21 for each.
+-- Assumes nothing.
 use mathlib.Core.Path.{sym}
 use native.Mathlib.Omega.{arith}
 use lib.ListN.{length}

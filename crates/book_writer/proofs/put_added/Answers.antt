@@ -1,4 +1,5 @@
--- `book_writer::put_added` meets its contract: what the answer's arm adds is what the contract gives room for. Assumes nothing.
+-- `book_writer::put_added` meets its contract: what the answer's arm adds is what the contract gives room for.
+-- Assumes nothing.
 use mathlib.Core.Path.{◌≡◌}
 use native.Mathlib.Omega.{arith}
 use Rattle.point.specs.Paper.{point, none_by_prime}

@@ -1,5 +1,5 @@
--- Between two turns of `book_writer::put_book` the buffer is what `Between` says: with the entries and bodies that are left it is as it
--- will be at the end. Assumes nothing.
+-- Between two turns of `book_writer::put_book` the buffer is what `Between` says: with the entries and bodies that
+-- are left it is as it will be at the end. Assumes nothing.
 use Prim.Native.Nat.{◌-◌}
 use lib.ListN.{length}
 use Rattle.book.proofs.Between.{Between}

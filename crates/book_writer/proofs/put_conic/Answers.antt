@@ -1,5 +1,5 @@
--- `book_writer::put_conic` meets its contract: what solve answers is the definition's verdict on the conic of the list, and its point
--- fits. Assumes nothing.
+-- `book_writer::put_conic` meets its contract: what solve answers is the definition's verdict on the conic of the
+-- list, and its point fits. Assumes nothing.
 use mathlib.Core.Path.{◌≡◌, sym, ap, subst, ◌∙◌}
 use Prim.Native.Nat.{◌+◌, ◌≤◌}
 use native.Mathlib.Omega.{arith}
@@ -18,8 +18,9 @@ put_body-requires c =
     let h = conic_at c.args.list.now c.args.from in
     let v = solved c.solve-answer.result in
     let verdict : v ≡ solve_of h = c.solve-answer.ensures.as_defined ∙ ap solve_of c.conic_at.ensures in
+    let fits = λ (w : Verdict). c.args.offset + body_length (kind_of w) ≤ length c.args.book.now in
     let room : c.args.offset + body_length (kind_of v) ≤ length c.args.book.now =
-    subst (λ (w : Verdict). c.args.offset + body_length (kind_of w) ≤ length c.args.book.now) (sym verdict) c.requires.1.body_room in (
+    subst fits (sym verdict) c.requires.1.body_room in (
       c.requires.0,
       record {
         room = omega (arith, room, length_added v, c.put_entry.auto.book);
@@ -30,7 +31,8 @@ put_body-requires c =
 pub returns : goal.returns
 returns c =
     let h = conic_at c.args.list.now c.args.from in
-    let verdict : solved c.solve-answer.result ≡ solve_of h = c.solve-answer.ensures.as_defined ∙ ap solve_of c.conic_at.ensures in
+    let verdict : solved c.solve-answer.result ≡ solve_of h =
+    c.solve-answer.ensures.as_defined ∙ ap solve_of c.conic_at.ensures in
     let kind : c.kind_of-kind.result ≡ kind_of (solve_of h) = c.kind_of-kind.ensures ∙ ap kind_of verdict in
     record {
       book =

@@ -19,7 +19,9 @@ passed :
     (book : List ℕ) (at : ℕ) (n : ℤ) {r : List ℕ} → nat_abs n ≤ point_limit →
     r ≡ sets book at (bytes 4 (unsigned 4 (to_z w64 (of_z w64 n)))) → r ≡ sets book at (bytes 4 (unsigned 4 n))
 passed book at n small e =
-    e ∙ ap (λ (m : ℤ). sets book at (bytes 4 (unsigned 4 m))) (to_z-of_z (fits w64 (search sizes depth 60 fits 9999) tt))
+    e
+    ∙ ap (λ (m : ℤ). sets book at (bytes 4 (unsigned 4 m)))
+    (to_z-of_z (fits w64 (search sizes depth 60 fits 9999) tt))
 
 pub returns : goal.returns
 returns c =

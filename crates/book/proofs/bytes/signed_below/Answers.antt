@@ -2,16 +2,9 @@
 use Prim.Native.Nat.{◌*◌, ◌≤◌}
 use native.Mathlib.Omega.{arith}
 use borrow.Author.Tests.{lt-ltb, le-ltb}
-use mir.Syntax.{w64}
-use Rattle.whole.proofs.Signed.{casts, fits, reads}
+use Rattle.whole.proofs.Signed.{casts, reads}
 use Rattle.book.specs.Bytes.{signed_below}
 use Rattle.book.proofs.bytes.signed_below.Goals as goal
-
-pub overflow_sub-result : goal.overflow_sub-result
-overflow_sub-result c =
-    let n : c.args.n ≤ 4_294_967_296 = omega arith in
-    let range : c.args.range ≤ 4_294_967_296 = omega arith in
-    fits w64 (search casts depth 60 fits 9999) tt
 
 pub returns-then-n-range : goal.returns-then-n-range
 unfolding signed_below
