@@ -3,3 +3,4 @@ pub mod Buffer
 pub mod Texts
 pub mod Row
 pub mod Theorems
+pub mod Refusals
