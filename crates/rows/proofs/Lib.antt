@@ -5,4 +5,5 @@ pub mod GoesOn
 pub mod Rest
 pub mod Holds
 pub mod Whole
+pub mod Refusals
 pub mod Promise

@@ -1,3 +1,4 @@
 pub mod Input
 pub mod Cutter
 pub mod Whole
+pub mod Refusals
