@@ -7,3 +7,5 @@ pub mod Tests
 pub mod Passed
 pub mod Limits
 pub mod Promise
+pub mod NormalForms
+pub mod Asked
