@@ -6,3 +6,4 @@ pub mod Products
 pub mod Bounds
 pub mod Legal
 pub mod Promise
+pub mod Refusals

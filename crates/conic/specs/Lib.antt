@@ -1,3 +1,4 @@
 pub mod Form
 pub mod Base
 pub mod Sizes
+pub mod Refusals
