@@ -9,12 +9,14 @@ use Rattle.point.specs.Paper.{point, refusal, is_zero}
 use Rattle.point.specs.Legal.{is_base, is_target, is_direction}
 use Rattle.point.specs.declared.Point.{Point}
 use Rattle.point.specs.declared.Direction.{Direction}
+use Rattle.point.specs.Asked.{TargetExactly, DirectionExactly}
 use Rattle.point.proofs.Tests.{is_zero_iff, is_zero_not}
+use Rattle.point.proofs.Asked.{target_exactly, direction_exactly}
 use Rattle.conic.specs.Form.{G, Δ}
 use Rattle.conic.specs.Base.{in_range, from_base, LegalBase}
 use Rattle.conic.specs.declared.conic.Conic.{Conic}
 use Rattle.direction.specs.Direction.{direction, no_direction, point_from, direction_to, tangent, point_of, direction_of}
-use Rattle.direction.specs.Demand3.{OnConic, Based, Proper, Multiples, StepsAreRight, TangentGivesBase, SamePointExactly, EveryPointOnce, StepsUndo, EntriesGiveSteps}
+use Rattle.direction.specs.Demand3.{OnConic, Based, Proper, Multiples, StepsAreRight, TangentGivesBase, SamePointExactly, EveryPointOnce, StepsUndo, EntriesGiveSteps, BackInNormalForm, EntriesUndo}
 use Rattle.direction.proofs.Directions.{normal_direction_proper, normal_direction_of_normal, multiples_iff}
 use Rattle.direction.proofs.Tests.{legal_is_based}
 use Rattle.direction.proofs.Steps.{tangent_is_proper, point_from_on, direction_to_normal, point_from_normal_direction, point_from_tangent, point_from_direction_to, direction_to_point_from}
@@ -68,6 +70,10 @@ steps_undo h p base = (
   λ t n. direction_to_point_from h p base t (normal_direction_proper n) ∙ normal_direction_of_normal n,
 )
 
+pub back_in_normal_form : BackInNormalForm
+unfolding BackInNormalForm
+back_in_normal_form = direction_to_point_from
+
 -- ---- the entries
 
 past_base : {A : Type 0} (refuse : ℕ → A) (h : Conic) (p : Point) (next : A) → LegalBase h p → from_base refuse h p next ≡ next
@@ -101,3 +107,20 @@ entries_give_steps h p l = (
       ∙ ap₂ (λ b c. cond b (cond c (direction (direction_to h p q)) (no_direction 9)) (no_direction 8))
       (true_of_T (is_target q) d) (is_zero_iff.1 on),
 )
+
+pub entries_undo : EntriesUndo
+unfolding EntriesUndo EntriesGiveSteps TargetExactly DirectionExactly
+entries_undo h p l =
+    let (base, point_given, direction_given) = entries_give_steps h p l in (
+      λ t d target.
+          let proper : Proper t = record { not_both_zero = ((direction_exactly t).0 d).not_both_zero } in (
+            point_given t d,
+            direction_given (point_from h p t) target (point_from_on h p base t proper).on
+                ∙ ap direction (direction_to_point_from h p base t proper),
+          ),
+      λ q target on d.
+          let on_conic : OnConic h q = record { normal_form = ((target_exactly q).0 target).normal_form; on = on } in (
+            direction_given q target on,
+            point_given (direction_to h p q) d ∙ ap point (point_from_direction_to h p base q on_conic),
+          ),
+    )

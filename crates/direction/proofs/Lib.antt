@@ -5,5 +5,6 @@ pub mod Tests
 pub mod Steps
 pub mod Demand3
 pub mod Entries
+pub mod Refusals
 pub mod Room
 pub mod Promise

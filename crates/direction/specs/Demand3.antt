@@ -1,7 +1,7 @@
 -- Demand 3, as statements about the two steps over all whole numbers: from a base point, directions up to multiples and rational
 -- points of the conic (infinity included) correspond one to one, and each step undoes the other. Assumes nothing.
 use Rattle.std.specs.Prelude.{◌≡◌, ◌↔◌, T, pos, ◌*ℤ◌, ◌<ℤ◌}
-use Rattle.point.specs.Normal.{NormalForm, NormalDirection}
+use Rattle.point.specs.Normal.{NormalForm, NormalDirection, normal_direction}
 use Rattle.point.specs.Paper.{point}
 use Rattle.point.specs.Legal.{is_target, is_direction}
 use Rattle.point.specs.declared.Point.{Point}
@@ -70,3 +70,19 @@ EntriesGiveSteps =
     Based h p ×
     ((t : Direction) → T (is_direction t) → point_of h p t ≡ point (point_from h p t)) ×
     ((q : Point) → T (is_target q) → G h q ≡ pos 0 → direction_of h p q ≡ direction (direction_to h p q))
+
+-- 7. from the point that a direction gives, the second step gives the direction's normal form
+unfoldable pub BackInNormalForm : Type 0
+BackInNormalForm =
+    (h : Conic) (p : Point) → Based h p →
+    (t : Direction) → Proper t → direction_to h p (point_from h p t) ≡ normal_direction t
+
+-- 8. each entry undoes the other, wherever what the one gives may be handed to the other
+unfoldable pub EntriesUndo : Type 0
+EntriesUndo =
+    (h : Conic) (p : Point) → LegalBase h p →
+    ((t : Direction) → T (is_direction t) → T (is_target (point_from h p t)) →
+    (point_of h p t ≡ point (point_from h p t)) ×
+    (direction_of h p (point_from h p t) ≡ direction (normal_direction t))) ×
+    ((q : Point) → T (is_target q) → G h q ≡ pos 0 → T (is_direction (direction_to h p q)) →
+    (direction_of h p q ≡ direction (direction_to h p q)) × (point_of h p (direction_to h p q) ≡ point q))

@@ -1,2 +1,3 @@
 pub mod Direction
 pub mod Demand3
+pub mod Refusals
