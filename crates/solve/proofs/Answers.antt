@@ -16,16 +16,17 @@ use Rattle.number.proofs.Least.{T-of-true, not_true_of_false}
 use Rattle.number.proofs.Prime.{prime_divides_product}
 use Rattle.legendre.specs.Outcome.{outcome_of}
 use Rattle.legendre.specs.declared.outcome.Outcome.{Outcome}
-use Rattle.point.specs.Paper.{Verdict, point, none_by_sign, none_by_prime, refusal, point_limit, is_zero}
+use Rattle.point.specs.Paper.{Verdict, point, none_by_sign, none_by_prime, refusal, point_limit, point_in_limit, is_zero}
 use Rattle.point.specs.Sizes.{PointWithin}
 use Rattle.point.specs.declared.Point.{Point}
 use Rattle.point.proofs.Cases.{by_test, cond_cases}
-use Rattle.point.proofs.Tests.{is_zero_iff, not_zero_of_false}
+use Rattle.point.proofs.Limits.{within_point}
+use Rattle.point.proofs.Tests.{is_base_iff, is_zero_iff, not_zero_of_false}
 use Rattle.conic.specs.Form.{D, Δ}
 use Rattle.conic.specs.Base.{in_range}
 use Rattle.conic.specs.declared.conic.Conic.{Conic}
 use Rattle.conic.proofs.Sizes.{in_limit, D-size, aΔ_size}
-use Rattle.solve.specs.Demand2.{NonDegenerate, PointIsRight, PrimeIsTrue, SquareDiscriminant, SquareHasPoint}
+use Rattle.solve.specs.Demand2.{NonDegenerate, PointIsRight, PointIsLegalBase, PrimeIsTrue, SquareDiscriminant, SquareHasPoint}
 use Rattle.solve.specs.Level.{level_of}
 use Rattle.solve.specs.Solve.{is_square_number, from_infinity, outcome_carried, solve_levelled, solve_non_degenerate, solve_of}
 use Rattle.solve.proofs.Demand2.{point_is_right, prime_is_true, square_has_point}
@@ -96,6 +97,18 @@ unfolding PointIsRight
 point_fits h p e =
     let right = point_is_right h p (answered h (ap is_refusal e)) e in
     record { x_within = right.x_within; y_within = right.y_within; z_within = right.z_within }
+
+pub point_is_legal_base : PointIsLegalBase
+unfolding PointIsLegalBase PointIsRight point_in_limit
+point_is_legal_base h p e =
+    let ok = answered h (ap is_refusal e) in
+    let right = point_is_right h p ok e in
+    record {
+      in_range = ok.in_range;
+      not_degenerate = ok.not_zero;
+      legal = T-of-true (is_base_iff.1 (within_point (point_fits h p e), right.normal_form, right.in_plane));
+      on = right.on;
+    }
 
 -- ---- the prime
 

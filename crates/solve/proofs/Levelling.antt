@@ -28,7 +28,7 @@ use Rattle.point.specs.declared.Point.{Point}
 use Rattle.conic.specs.Form.{G, Gx, D, Δ, k}
 use Rattle.conic.specs.declared.conic.Conic.{Conic}
 use Rattle.solve.specs.Demand2.{LevelledBy, SquareDiscriminant}
-use Rattle.solve.specs.Level.{level_of, level_from, primed, from_primed}
+use Rattle.solve.specs.Level.{LevelledForm, level_of, level_from, primed, from_primed}
 use Rattle.solve.specs.declared.level.Level.{Level}
 
 -- ---- the two identities
@@ -43,6 +43,10 @@ pub levelled_form : (h : Conic) (p : Point) →
 unfolding G Gx D Δ k B
 levelled_form h p =
     by_ring (h.a ∷ h.b ∷ h.c ∷ h.d ∷ h.e ∷ h.f ∷ p.x ∷ p.y ∷ p.z ∷ []) (search reify depth 64 fits 9999) tt
+
+pub levelled_form_of_conic : LevelledForm
+unfolding LevelledForm B
+levelled_form_of_conic = levelled_form
 
 pub form_from_primed : (h : Conic) (m : Point) →
     G h (from_primed h m)

@@ -4,6 +4,8 @@ pub mod Infinity
 pub mod Sign
 pub mod Demand2
 pub mod Answers
+pub mod Refusals
+pub mod ByLevel
 pub mod Bench
 pub mod Carrying
 pub mod Entries

@@ -4,12 +4,13 @@ use Rattle.std.specs.Prelude.{◌≡◌, ◌⊎◌, ◌↔◌, ℕ, ◌*◌, ◌
 use Rattle.number.specs.Gcd.{gcd_of}
 use Rattle.number.specs.Squarefree.{Squarefree}
 use Rattle.legendre.specs.Answer.{Chosen, LeastFailing}
+use Rattle.legendre.specs.Equation.{Levelled, Positive}
 use Rattle.legendre.specs.declared.outcome.Triple.{Triple}
 use Rattle.point.specs.Normal.{normal, NormalForm}
-use Rattle.point.specs.Paper.{point, none_by_sign, none_by_prime, point_limit}
+use Rattle.point.specs.Paper.{point, none_by_sign, none_by_prime, refusal, point_limit}
 use Rattle.point.specs.declared.Point.{Point}
 use Rattle.conic.specs.Form.{G, L, D, Δ, drawn}
-use Rattle.conic.specs.Base.{in_range}
+use Rattle.conic.specs.Base.{in_range, LegalBase}
 use Rattle.conic.specs.declared.conic.Conic.{Conic}
 use Rattle.solve.specs.Level.{carried_back}
 use Rattle.solve.specs.Solve.{first_line, second_line, third_line, solve_of}
@@ -106,3 +107,28 @@ PointIsChosen =
     (h : Conic) (at : Point) → NonDegenerate h → ¬ SquareDiscriminant h → solve_of h ≡ point at →
     (d₁ e₁ : ℤ) (s t : ℕ) (p g q : ℤ) → LevelledBy h d₁ e₁ s t p g q →
     (m : Triple) × Chosen p g q m × (at ≡ carried_back h (record { p = p; g = g; q = q; s = pos s; t = pos t }) m)
+
+-- 9. it is not refused
+unfoldable pub NeverRefused : Type 0
+NeverRefused = (h : Conic) (n : ℕ) → NonDegenerate h → ¬ (solve_of h ≡ refusal n)
+
+-- 10. so demand 3 goes on from it: whatever the conic, a point that is given is a legal base on it
+unfoldable pub PointIsLegalBase : Type 0
+PointIsLegalBase = (h : Conic) (p : Point) → solve_of h ≡ point p → LegalBase h p
+
+-- 11. however D and aΔ are split, p, g and q are squarefree and pairwise without common factor, and g > 0
+unfoldable pub SplitIsLevelled : Type 0
+SplitIsLevelled =
+    (h : Conic) (d₁ e₁ : ℤ) (s t : ℕ) (p g q : ℤ) → LevelledBy h d₁ e₁ s t p g q → Levelled p g q × Positive g
+
+-- 12. none by sign exactly if p and q are both positive
+unfoldable pub SignByLevel : Type 0
+SignByLevel =
+    (h : Conic) (d₁ e₁ : ℤ) (s t : ℕ) (p g q : ℤ) → NonDegenerate h → LevelledBy h d₁ e₁ s t p g q →
+    solve_of h ≡ none_by_sign ↔ (Positive p × Positive q)
+
+-- 13. none by a prime exactly if they are not, and it is the least prime at which Legendre's condition fails
+unfoldable pub PrimeByLevel : Type 0
+PrimeByLevel =
+    (h : Conic) (l : ℕ) (d₁ e₁ : ℤ) (s t : ℕ) (p g q : ℤ) → NonDegenerate h → LevelledBy h d₁ e₁ s t p g q →
+    solve_of h ≡ none_by_prime l ↔ ((¬ (Positive p × Positive q)) × LeastFailing p g q l)

@@ -1,13 +1,13 @@
 -- Levelling: D = d₁s² and aΔ = e₁t² with d₁, e₁ squarefree (signs kept), g = gcd(d₁, e₁), p = d₁/g, q = e₁/g; and the way back from
 -- a solution of the levelled equation to a point of the conic. Assumes nothing.
-use Rattle.std.specs.Prelude.{ℕ, ℤ, pos, nat_abs, ◌+ℤ◌, ◌-ℤ◌, ◌*ℤ◌}
+use Rattle.std.specs.Prelude.{◌≡◌, ℕ, ℤ, pos, nat_abs, ◌+ℤ◌, ◌-ℤ◌, ◌*ℤ◌}
 use Rattle.std.specs.Int.Signed.{quot_z}
 use Rattle.number.specs.Gcd.{gcd_of}
 use Rattle.number.specs.Squarefree.{free_part, square_part}
 use Rattle.legendre.specs.declared.outcome.Triple.{Triple}
 use Rattle.point.specs.Normal.{normal}
 use Rattle.point.specs.declared.Point.{Point}
-use Rattle.conic.specs.Form.{D, Δ, k}
+use Rattle.conic.specs.Form.{G, Gx, D, Δ, k}
 use Rattle.conic.specs.declared.conic.Conic.{Conic}
 use Rattle.solve.specs.declared.level.Level.{Level}
 
@@ -46,3 +46,11 @@ from_primed h m =
 -- the point of a solution (X, Y, W)
 unfoldable pub carried_back : Conic → Level → Triple → Point
 carried_back h v m = normal (from_primed h (primed v m))
+
+-- 4aD·G = D·G_x² + (Dy + kz)² + 4aΔ·z²: a point of the conic gives a solution of the levelled equation
+unfoldable pub LevelledForm : Type 0
+LevelledForm =
+    (h : Conic) (p : Point) →
+    let B : ℤ = D h *ℤ p.y +ℤ k h *ℤ p.z in
+    pos 4 *ℤ h.a *ℤ D h *ℤ G h p
+    ≡ D h *ℤ (Gx h p *ℤ Gx h p) +ℤ B *ℤ B +ℤ pos 4 *ℤ (h.a *ℤ Δ h) *ℤ (p.z *ℤ p.z)
