@@ -1,6 +1,7 @@
 pub mod Least
 pub mod Divides
 pub mod Gcd
+pub mod Greatest
 pub mod Bezout
 pub mod Prime
 pub mod Squarefree
