@@ -30,19 +30,9 @@ use Rattle.conic.specs.declared.conic.Conic.{Conic}
 use Rattle.solve.specs.Demand2.{LevelledBy, SquareDiscriminant}
 use Rattle.solve.specs.Level.{LevelledForm, level_of, level_from, primed, from_primed}
 use Rattle.solve.specs.declared.level.Level.{Level}
+use Rattle.solve.proofs.LevelledForm.{B, levelled_form}
 
 -- ---- the two identities
-
--- B = Dy + kz
-unfoldable pub B : Conic → Point → ℤ
-B h p = D h *ℤ p.y +ℤ k h *ℤ p.z
-
-pub levelled_form : (h : Conic) (p : Point) →
-    pos 4 *ℤ h.a *ℤ D h *ℤ G h p
-    ≡ D h *ℤ (Gx h p *ℤ Gx h p) +ℤ B h p *ℤ B h p +ℤ pos 4 *ℤ (h.a *ℤ Δ h) *ℤ (p.z *ℤ p.z)
-unfolding G Gx D Δ k B
-levelled_form h p =
-    by_ring (h.a ∷ h.b ∷ h.c ∷ h.d ∷ h.e ∷ h.f ∷ p.x ∷ p.y ∷ p.z ∷ []) (search reify depth 64 fits 9999) tt
 
 pub levelled_form_of_conic : LevelledForm
 unfolding LevelledForm B

@@ -1,3 +1,4 @@
+pub mod LevelledForm
 pub mod Levelling
 pub mod Sizes
 pub mod Infinity

@@ -24,7 +24,8 @@ use Rattle.solve.specs.Demand2.{LevelledBy, OneSignEverywhere, SquareDiscriminan
 use Rattle.solve.specs.Level.{from_primed}
 use Rattle.solve.specs.Solve.{start_at_infinity}
 use Rattle.solve.proofs.Infinity.{start}
-use Rattle.solve.proofs.Levelling.{B, levelled_form, form_from_primed, Levellable, positive_not_zero, g_positive, D-is, aΔ_is}
+use Rattle.solve.proofs.LevelledForm.{B, levelled_form}
+use Rattle.solve.proofs.Levelling.{form_from_primed, Levellable, positive_not_zero, g_positive, D-is, aΔ_is}
 
 -- ---- products with a known sign
 
