@@ -7,14 +7,12 @@ use lib.Dec.{lit≤}
 use lib.IntN.{ℤ}
 use Rattle.point.specs.Paper.{number}
 use Rattle.point.specs.declared.paper.Refusal.{Refusal}
-use Rattle.point.specs.declared.paper.Refusal.TheVariants as Refusal
 use Rattle.point.specs.declared.Direction.{Direction}
 use Rattle.point.specs.declared.Point.{Point}
 use Rattle.conic.specs.declared.conic.Conic.{Conic}
 use Rattle.solve.specs.Answer.{reason_given, solved}
 use Rattle.solve.specs.Solve.{SolvePromise}
 use Rattle.solve.specs.declared.Reason.{Reason}
-use Rattle.solve.specs.declared.Reason.TheVariants as Reason
 use Rattle.solve.specs.declared.Solved.{Solved}
 use Rattle.direction.specs.Direction.{PointPromise, DirectionPromise, reached, directed}
 use Rattle.direction.specs.declared.Directed.{Directed}

@@ -1,7 +1,7 @@
 -- `conic_c::conic_book_write` meets its promise: the length of the book is handed over as it is, and it fits a code, since it is at
 -- most that of the buffer. Assumes nothing.
 use Rattle.std.proofs.Common.{◌<◌, ◌^◌, refl, arith, w64}
-use mir.Facts.{to_z_pos}
+use mir.Facts.{to_z-of_z, to_z_pos}
 use Rattle.conic_c.proofs.Handing.{book_write_handed}
 use Rattle.conic_c.proofs.Lengths.{book_within}
 use Rattle.conic_c.proofs.conic_book_write.Goals.{In-Length}
@@ -15,3 +15,7 @@ overflow_cast-result c = record { sfits = length_fits c }
 
 pub returns-in-Length : goal.returns-in-Length
 returns-in-Length c = rw (to_z_pos w64 (length_fits c)) (book_write_handed c.in-Length.ensures refl)
+
+pub returns-in-Refused : goal.returns-in-Refused
+returns-in-Refused c =
+    rw (to_z-of_z {w = w64} (record { sfits = c.refused.type_inv })) (book_write_handed c.in-Refused.ensures c.refused.ensures)

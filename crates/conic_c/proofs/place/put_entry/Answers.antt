@@ -1,0 +1,11 @@
+-- `conic_c::place::put_entry` meets its contract: the conic is handed over first, and then a stored none in its own place. Assumes
+-- nothing.
+use mir.Facts.{to_z-of_z}
+use mir.Syntax.{w64}
+use Rattle.conic_c.proofs.Handing.{stored_none_handed}
+use Rattle.conic_c.proofs.place.put_entry.Goals as goal
+
+pub returns-in-None : goal.returns-in-None
+returns-in-None c =
+    rw (c.in-None.is, to_z-of_z {w = w64} (record { sfits = c.put_reason.type_inv }))
+    (stored_none_handed c.in-None.reason c.put_conic.ensures c.put_reason.ensures)
