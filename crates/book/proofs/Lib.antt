@@ -12,8 +12,10 @@ pub mod Lengths
 pub mod Laid
 pub mod Between
 pub mod Writing
+pub mod WriterRefusals
 pub mod RightBodies
 pub mod Refusals
+pub mod ReaderRefusals
 pub mod LegalPoints
 pub mod Accepted
 pub mod Parts

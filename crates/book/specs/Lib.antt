@@ -4,4 +4,5 @@ pub mod Writer
 pub mod Steps
 pub mod Reader
 pub mod Theorems
+pub mod Refusals
 pub mod Examples
