@@ -1,3 +1,4 @@
 pub mod Codes
 pub mod Places
 pub mod Promises
+pub mod Theorems
