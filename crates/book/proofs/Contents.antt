@@ -1,32 +1,27 @@
 -- What the test of a layout says: the contents are there, each entry holds, and the last body ends with the book; so each body lies in
 -- the book. Assumes nothing.
-use mathlib.Core.Bool.{true, false, ◌&&◌, and-false, and-eq-true_iff}
+use mathlib.Core.Bool.{true, false, ◌&&◌, and-eq-true_iff}
 use mathlib.Core.List.{List}
 use mathlib.Core.Logic.{◌↔◌, ⊎_elim}
-use mathlib.Core.Path.{◌≡◌, ap, ap₂}
+use mathlib.Core.Path.{◌≡◌, sym, ap, ap₂, ◌∙◌}
 use Prim.Native.Nat.{ℕ, zero, suc, ◌+◌, ◌*◌, ◌≤◌, ◌<◌}
 use native.Mathlib.Nat.{eq-or-lt_of_le, le_refl, le_of_eq, le_trans, le-add_right}
 use native.Mathlib.Numerals.{add-one}
 use native.Mathlib.Omega.{arith}
-use lib.Dec.{leb, eqb}
+use lib.Dec.{eqb}
 use lib.ListN.{length}
-use borrow.Author.Tests.{leb-true, le-leb, lt-leb, eqb-true, eq-eqb}
+use borrow.Author.Tests.{leb-true, le-leb, eqb-true, eqb-false, eq-eqb}
+use Rattle.std.specs.Prelude.{Option, Some, None, IfSome, IfNone}
+use Rattle.std.specs.Option.{option_eq}
+use Rattle.number.proofs.Least.{false_of_not_true}
+use Rattle.point.proofs.Cases.{by_test}
+use Rattle.book.specs.Kinds.{kind_number}
 use Rattle.book.specs.Layout.{count_limit, body_length, count_of, kind_at, offset_at}
-use Rattle.book.specs.Reader.{bodies_end, every_below, entry_holds, layout_holds}
+use Rattle.book.specs.Reader.{bodies_end, entry_holds, layout_holds}
+use Rattle.book.specs.Steps.{EntryRight, EntriesRight, LayoutRight, BodyAt, Contents}
+use Rattle.book.specs.declared.kind.Kind.{Kind}
 use Rattle.book.proofs.BodyKinds.{length_at_most}
 use Rattle.book.proofs.Every.{every_gives, every_holds}
-
-pub record EntryRight (book : List ℕ) (i : ℕ) : Type 0 where
-  pub kind_at_least : 1 ≤ kind_at book i
-  pub kind_at_most : kind_at book i ≤ 4
-  pub offset : offset_at book i ≡ bodies_end book i
-
-pub record LayoutRight (book : List ℕ) : Type 0 where
-  pub has_count : 2 ≤ length book
-  pub has_contents : 2 + 3 * count_of book ≤ length book
-  pub count_at_most : count_of book ≤ count_limit
-  pub entries : (i : ℕ) → i < count_of book → EntryRight book i
-  pub ends : bodies_end book (count_of book) ≡ length book
 
 pub entry_right : (book : List ℕ) (i : ℕ) → entry_holds book i ≡ true ↔ EntryRight book i
 unfolding entry_holds
@@ -43,40 +38,6 @@ entry_right book i = (
       ap₂ ◌&&◌ (ap₂ ◌&&◌ (le-leb 1 (kind_at book i) r.kind_at_least) (le-leb (kind_at book i) 4 r.kind_at_most))
       (eq-eqb (offset_at book i) (bodies_end book i) r.offset),
 )
-
--- the tests of an entry, one after the other
-module _ (book : List ℕ) (i : ℕ) where
-  pub kind_below : kind_at book i < 1 → false ≡ entry_holds book i
-  unfolding entry_holds
-  kind_below h = rw (lt-leb 1 (kind_at book i) h)
-
-  pub kind_above : 4 < kind_at book i → false ≡ entry_holds book i
-  unfolding entry_holds
-  kind_above h = rw (lt-leb (kind_at book i) 4 h, and-false (leb 1 (kind_at book i)))
-
-  pub kind_between : 1 ≤ kind_at book i → kind_at book i ≤ 4 → eqb (offset_at book i) (bodies_end book i) ≡ entry_holds book i
-  unfolding entry_holds
-  kind_between h k = rw (le-leb 1 (kind_at book i) h, le-leb (kind_at book i) 4 k)
-
--- the tests of a layout, one after the other
-module _ (book : List ℕ) where
-  pub no_count : length book < 2 → false ≡ layout_holds book
-  unfolding layout_holds
-  no_count h = rw (lt-leb 2 (length book) h)
-
-  pub no_contents : length book < 2 + 3 * count_of book → false ≡ layout_holds book
-  unfolding layout_holds
-  no_contents h = rw (lt-leb (2 + 3 * count_of book) (length book) h, and-false (leb 2 (length book)))
-
-  pub too_many : count_limit < count_of book → false ≡ layout_holds book
-  unfolding layout_holds
-  too_many h = rw (lt-leb (count_of book) count_limit h, and-false (leb 2 (length book) && leb (2 + 3 * count_of book) (length book)))
-
-  pub contents_hold :
-      2 ≤ length book → 2 + 3 * count_of book ≤ length book → count_of book ≤ count_limit →
-      every_below (entry_holds book) (count_of book) && eqb (bodies_end book (count_of book)) (length book) ≡ layout_holds book
-  unfolding layout_holds
-  contents_hold count contents limit = rw (le-leb 2 (length book) count, le-leb (2 + 3 * count_of book) (length book) contents, le-leb (count_of book) count_limit limit)
 
 pub layout_right : (book : List ℕ) → layout_holds book ≡ true ↔ LayoutRight book
 unfolding layout_holds
@@ -103,6 +64,9 @@ layout_right book =
           (eq-eqb (bodies_end book n) (length book) r.ends),
     )
 
+pub layout_wrong : {book : List ℕ} → ¬ LayoutRight book → layout_holds book ≡ false
+layout_wrong {book} wrong = false_of_not_true λ e. wrong ((layout_right book).0 e)
+
 pub end_more : (book : List ℕ) (i : ℕ) → bodies_end book (i + 1) ≡ bodies_end book i + body_length (kind_at book i)
 unfolding bodies_end
 end_more book i = rw add-one
@@ -126,3 +90,31 @@ unfolding bodies_end
 body_within {book} r i h =
     let grows : bodies_end book (suc i) ≤ bodies_end book (count_of book) = end_grows book (suc i) (count_of book) h in
     omega (arith, r.ends)
+
+-- a layout is right where the end of its last body, if its entries are right, is the book's
+pub layout_tested :
+    {book : List ℕ} {count : ℕ} (last : Option ℕ) → 2 ≤ length book → Contents book count →
+    IfSome last (λ end. EntriesRight book × (end ≡ bodies_end book count)) → IfNone last (¬ EntriesRight book) →
+    option_eq eqb last (Some (length book)) ≡ layout_holds book
+layout_tested None long contents right wrong = sym (layout_wrong λ r. wrong r.entries)
+layout_tested {book} (Some end) long contents (entries, last) wrong =
+    by_test (eqb end (length book))
+    (λ same.
+    same ∙ sym ((layout_right book).1 (record {
+      has_count = long;
+      has_contents = omega (arith, contents);
+      count_at_most = omega (arith, contents);
+      entries = entries;
+      ends = ap (bodies_end book) (sym contents.count_is) ∙ sym last ∙ eqb-true end (length book) same;
+    })))
+    (λ other.
+    other ∙ sym (layout_wrong λ r.
+    eqb-false end (length book) other (last ∙ ap (bodies_end book) contents.count_is ∙ r.ends)))
+
+-- the kind and the offset of an entry say where its body is
+pub body_at :
+    {book : List ℕ} {i at : ℕ} {kind : Kind} → LayoutRight book → i < count_of book → kind_number kind ≡ kind_at book i →
+    at ≡ offset_at book i → BodyAt book i kind at
+body_at {book} {i} {at} {kind} r h is read =
+    let starts : at ≡ bodies_end book i = read ∙ (r.entries i h).offset in
+    record { kind_is = is; starts = starts; room = rw (starts, is) (body_within r i h) }

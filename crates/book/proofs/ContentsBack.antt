@@ -11,9 +11,9 @@ use Rattle.solve.specs.Solve.{solve_of}
 use Rattle.book.specs.Bytes.{bytes, number_at}
 use Rattle.book.specs.Layout.{count_limit, body_length, kind_of, count_of, kind_at, offset_at}
 use Rattle.book.specs.Reader.{bodies_end}
+use Rattle.book.specs.Steps.{LayoutRight}
 use Rattle.book.specs.Writer.{bodies, book_of}
 use Rattle.book.proofs.BodyKinds.{kind_at_least, kind_at_most}
-use Rattle.book.proofs.Contents.{LayoutRight}
 use Rattle.book.proofs.Lengths.{length_book, book_at_most}
 use Rattle.book.proofs.Parts.{start_of, entry_at, start_more, start_within, start_end}
 use Rattle.book.proofs.ReadBack.{byte_from, number_from_lem, two_back}

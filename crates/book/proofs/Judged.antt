@@ -1,14 +1,15 @@
 -- A base is judged legal exactly if its point is right: the judgement and the test ask the same of the conic and
 -- the point. By cases on the outcomes. Assumes nothing.
 use mathlib.Core.Bool.{Bool, true, false, ◌&&◌, not, cond}
-use mathlib.Core.Path.{◌≡◌, refl, sym, ap, ◌∙◌}
+use mathlib.Core.Path.{◌≡◌, refl, ap, ◌∙◌}
+use Rattle.std.specs.Prelude.{Result, Ok, Err}
+use Rattle.std.specs.Result.{is_ok}
 use Rattle.point.specs.Legal.{is_base}
 use Rattle.point.specs.Paper.{is_zero}
 use Rattle.point.specs.declared.paper.Refusal.{Refusal}
 use Rattle.point.specs.declared.Point.{Point}
 use Rattle.conic.specs.Base.{from_base, Judgement, legal, refused, judged, judged_of, in_range}
 use Rattle.conic.specs.Form.{G, Δ}
-use Rattle.conic.specs.declared.base.Judged.{Judged}
 use Rattle.conic.specs.declared.conic.Conic.{Conic}
 use Rattle.book.specs.Reader.{is_right_point}
 
@@ -30,9 +31,6 @@ legal_test h p = by (in_range h) (is_zero (Δ h)) (is_base p) (is_zero (G h p))
     by true false true false = refl
     by true false true true = refl
 
-module _ (h : Conic) (p : Point) {r : Judged} (e : judged r ≡ judged_of h p) where
-  pub judged_legal : r ≡ Judged.Legal → true ≡ is_right_point h p
-  judged_legal own = sym (ap (λ (j : Judged). is_legal (judged j)) own) ∙ ap is_legal e ∙ legal_test h p
-
-  pub judged_refused : {s : Refusal} → r ≡ Judged.Refused s → false ≡ is_right_point h p
-  judged_refused own = sym (ap (λ (j : Judged). is_legal (judged j)) own) ∙ ap is_legal e ∙ legal_test h p
+pub judged_right : (h : Conic) (p : Point) (r : Result (Unit {0}) Refusal) → judged r ≡ judged_of h p → is_ok r ≡ is_right_point h p
+judged_right h p (Ok u) e = ap is_legal e ∙ legal_test h p
+judged_right h p (Err s) e = ap is_legal e ∙ legal_test h p

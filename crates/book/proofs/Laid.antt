@@ -6,6 +6,7 @@ use Prim.Native.Nat.{ℕ, ◌+◌, ◌*◌, ◌≤◌, ◌<◌}
 use native.Mathlib.Omega.{arith}
 use lib.ListN.{length, get_or, take, drop}
 use lib.Seq.{sets, sets-eq, paste}
+use Rattle.std.proofs.lemmas.List.{take_all}
 use Rattle.point.specs.Paper.{Verdict}
 use Rattle.point.proofs.Stores.{sets_append, sets_front}
 use Rattle.conic.specs.declared.conic.Conic.{Conic}
@@ -15,19 +16,20 @@ use Rattle.book.specs.Layout.{body_length, kind_of, coefficients, added, conic_a
 use Rattle.book.specs.Steps.{with_conic}
 use Rattle.book.specs.Writer.{entries, bodies, book_of}
 use Rattle.book.proofs.Lengths.{length_body, length_entries}
-use Rattle.book.proofs.Listed.{coefficients_copied}
+use Rattle.book.proofs.Listed.{coefficients_back}
 use Rattle.book.proofs.Stores.{sets_comm}
 
 -- a copy of six bytes, and what an answer adds
 pub body_stored :
-    (list : List ℕ) (from : ℕ) (book m r : List ℕ) (at : ℕ) (v : Verdict) → ((i : ℕ) → get_or list i 0 < 256) →
-    from + 6 ≤ length list → at + 6 ≤ length book → m ≡ paste book at (drop from list) 6 → r ≡ sets m (at + 6) (added v) →
-    r ≡ sets book at (coefficients (conic_at list from) ++ added v)
+    (six book : List ℕ) {m r : List ℕ} (at : ℕ) (v : Verdict) → length six ≡ 6 → ((i : ℕ) → get_or six i 0 < 256) →
+    at + 6 ≤ length book → m ≡ paste book at six 6 → r ≡ sets m (at + 6) (added v) →
+    r ≡ sets book at (coefficients (conic_at six 0) ++ added v)
 unfolding coefficients
-body_stored list from book m r at v small inside room copied stored =
-    let own : List ℕ = coefficients (conic_at list from) in
+body_stored six book {m} {r} at v long small room copied stored =
+    let own : List ℕ = coefficients (conic_at six 0) in
+    let back = coefficients_back six long small in
     let bytes_copied : m ≡ sets book at own =
-    copied ∙ ap (λ (l : List ℕ). take at book ++ l ++ drop (at + 6) book) (coefficients_copied list from small inside)
+    copied ∙ ap (λ (l : List ℕ). take at book ++ l ++ drop (at + 6) book) (take_all 6 six (omega arith) ∙ sym back)
     ∙ sym (sets-eq own book at room) in
     stored ∙ ap (λ (l : List ℕ). sets l (at + 6) (added v)) bytes_copied ∙ sym (sets_append book at own (added v))
 

@@ -1,17 +1,17 @@
 -- How long a book and its parts are: three bytes an entry, and each body as the table says. By induction on the conics. Assumes nothing.
 use mathlib.Core.List.{List, [], ◌∷◌, ◌++◌}
 use mathlib.Core.Path.{◌≡◌, refl, ap, ◌∙◌}
-use Prim.Native.Nat.{ℕ, ◌+◌, ◌*◌, ◌/◌, ◌≤◌}
+use Prim.Native.Nat.{ℕ, ◌+◌, ◌*◌, ◌≤◌}
 use native.Mathlib.Omega.{arith}
-use lib.ListN.{length, length-append}
+use lib.ListN.{length, length-append, drop}
+use Rattle.std.proofs.lemmas.List.{drop_all}
 use Rattle.point.specs.Paper.{Verdict, point, none_by_sign, none_by_prime, refusal}
 use Rattle.conic.specs.declared.conic.Conic.{Conic}
 use Rattle.solve.specs.Solve.{solve_of}
 use Rattle.book.specs.Bytes.{bytes}
-use Rattle.book.specs.Layout.{body_length, kind_of, coefficients, added, conic_at}
-use Rattle.book.specs.Writer.{entries, bodies, book_of, conics_of}
+use Rattle.book.specs.Layout.{body_length, kind_of, coefficients, added}
+use Rattle.book.specs.Writer.{entries, bodies, book_of}
 use Rattle.book.proofs.BodyKinds.{length_at_most}
-use Rattle.book.proofs.Listed.{conics_after, after_all_lem, after_more, after_none, length_conics}
 
 pub length_body : (h : Conic) (v : Verdict) → length (coefficients h ++ added v) ≡ body_length (kind_of v)
 unfolding coefficients bytes
@@ -53,22 +53,10 @@ bodies_at_most (h ∷ hs) = omega (arith, length_bodies h hs, length_at_most (ki
 pub book_at_most : (hs : List Conic) → length (book_of hs) ≤ 2 + 21 * length hs
 book_at_most hs = omega (arith, length_book hs, bodies_at_most hs)
 
--- the book of a list, and the bodies that are left of it from a place on
-module _ (list : List ℕ) where
-  pub length_list_book : length (book_of (conics_of list)) ≡ 2 + 3 * (length list / 6) + length (bodies (conics_after list 0))
-  length_list_book =
-      omega (arith, length_book (conics_of list), length_conics list, ap (λ (hs : List Conic). length (bodies hs)) (after_all_lem list))
+-- the bodies of the conics that are left, where a conic is the first of them
+pub length_left : {hs rest : List Conic} {h : Conic} → hs ≡ h ∷ rest → length (bodies hs) ≡ body_length (kind_of (solve_of h)) + length (bodies rest)
+length_left {rest = rest} {h} first = ap (λ (gs : List Conic). length (bodies gs)) first ∙ length_bodies h rest
 
-  pub list_book_at_most : length (book_of (conics_of list)) ≤ 2 + 21 * (length list / 6)
-  list_book_at_most = omega (arith, book_at_most (conics_of list), length_conics list)
-
-  pub length_left_more :
-      (at : ℕ) → at + 6 ≤ length list →
-      length (bodies (conics_after list at)) ≡
-      body_length (kind_of (solve_of (conic_at list at))) + length (bodies (conics_after list (at + 6)))
-  length_left_more at h =
-      ap (λ (hs : List Conic). length (bodies hs)) (after_more list at h) ∙ length_bodies (conic_at list at) (conics_after list (at + 6))
-
-  pub length_left_none : (at : ℕ) → length list ≤ at → length (bodies (conics_after list at)) ≡ 0
-  unfolding bodies
-  length_left_none at h = ap (λ (hs : List Conic). length (bodies hs)) (after_none list at h)
+pub length_none : (hs : List Conic) {i : ℕ} → length hs ≤ i → length (bodies (drop i hs)) ≡ 0
+unfolding bodies
+length_none hs {i} end = ap (λ (gs : List Conic). length (bodies gs)) (drop_all i hs end)

@@ -1,76 +1,82 @@
--- The conics of a list of bytes, one after the other: those from a place on are the conic there and those six bytes on. Assumes nothing.
-use mathlib.Core.Bool.{true, ◌&&◌}
+-- The conics of a list of bytes are those of its runs of six bytes, one after the other, and the coefficients of a conic are the six bytes
+-- that it was read from. By induction on the number of runs. Assumes nothing.
+use mathlib.Core.Bool.{Bool, ◌&&◌}
 use mathlib.Core.List.{List, [], ◌∷◌}
-use mathlib.Core.Path.{◌≡◌, refl, sym, ap, ◌∙◌}
-use Prim.Native.Nat.{ℕ, zero, suc, ◌+◌, ◌-◌, ◌/◌, ◌≤◌, ◌<◌}
+use mathlib.Core.Path.{◌≡◌, refl, sym, ap, ap₂, ◌∙◌}
+use Prim.Native.Nat.{ℕ, zero, suc, ◌+◌, ◌/◌, ◌<◌}
 use native.Mathlib.Nat.{add-zero}
 use native.Mathlib.Omega.{arith}
-use lib.ListN.{length, get_or, take, drop, length-drop}
+use lib.Dec.{lit<}
+use lib.ListN.{length, length-map, get_or, take, drop}
 use lib.Seq.{get_or-drop}
+use Rattle.std.specs.List.{list_all}
+use Rattle.std.specs.Simd.{first_chunks}
+use Rattle.std.proofs.lemmas.List.{drop-drop, drop_more, get_or-map, get_or-take}
 use Rattle.conic.specs.Base.{in_range}
 use Rattle.conic.specs.declared.conic.Conic.{Conic}
 use Rattle.book.specs.Bytes.{unsigned, signed}
 use Rattle.book.specs.Layout.{coefficients, conic_at}
+use Rattle.book.specs.Steps.{conics_in}
 use Rattle.book.specs.Writer.{conics_from, conics_of, all_in_range}
+use Rattle.book.proofs.Fields.{same_conic}
 use Rattle.book.proofs.SignedBytes.{unsigned_signed}
 
-abbrev pub conics_after : List ℕ → ℕ → List Conic
-conics_after list at = conics_from ((length list - at) / 6) list at
+-- a run of six bytes of a list
+run_at : (list : List ℕ) (at : ℕ) → conic_at (take 6 (drop at list)) 0 ≡ conic_at list at
+unfolding conic_at
+run_at list at =
+    let byte : (k : ℕ) → k < 6 → get_or (take 6 (drop at list)) k 0 ≡ get_or list (at + k) 0 =
+    λ k h. get_or-take 6 (drop at list) k 0 h ∙ get_or-drop at list k 0 in
+    same_conic
+    (ap (signed 1) (byte 0 (lit< tt) ∙ ap (λ (k : ℕ). get_or list k 0) (add-zero at)))
+    (ap (signed 1) (byte 1 (lit< tt)))
+    (ap (signed 1) (byte 2 (lit< tt)))
+    (ap (signed 1) (byte 3 (lit< tt)))
+    (ap (signed 1) (byte 4 (lit< tt)))
+    (ap (signed 1) (byte 5 (lit< tt)))
 
-pub after_all_lem : (list : List ℕ) → conics_of list ≡ conics_after list 0
+listed_from : (n : ℕ) (list : List ℕ) (at : ℕ) → conics_in (first_chunks 6 n (drop at list)) ≡ conics_from n list at
+unfolding conics_from
+listed_from zero list at = refl
+listed_from (suc n) list at =
+    ap₂ ◌∷◌ (run_at list at) (ap (λ (l : List ℕ). conics_in (first_chunks 6 n l)) (drop-drop 6 at list) ∙ listed_from n list (at + 6))
+
+pub listed : (list : List ℕ) → conics_in (first_chunks 6 (length list / 6) list) ≡ conics_of list
 unfolding conics_of
-after_all_lem list = ap (λ (n : ℕ). conics_from n list 0) (omega arith)
+listed list = listed_from (length list / 6) list 0
 
-pub after_more : (list : List ℕ) (at : ℕ) → at + 6 ≤ length list → conics_after list at ≡ conic_at list at ∷ conics_after list (at + 6)
-unfolding conics_from
-after_more list at h =
-    let more : (length list - at) / 6 ≡ suc ((length list - (at + 6)) / 6) = omega arith in
-    ap (λ (n : ℕ). conics_from n list at) more
+pub length_listed : (runs : List (List ℕ)) → length (conics_in runs) ≡ length runs
+length_listed runs = length-map runs (λ (six : List ℕ). conic_at six 0)
 
-pub after_none : (list : List ℕ) (at : ℕ) → length list ≤ at → conics_after list at ≡ []
-unfolding conics_from
-after_none list at h =
-    let none : (length list - at) / 6 ≡ 0 = omega arith in
-    ap (λ (n : ℕ). conics_from n list at) none
+-- of the conics that are left, the first is that of the first run
+pub next_conic :
+    (runs : List (List ℕ)) {i : ℕ} {six : List ℕ} (d : List ℕ) → i < length runs → six ≡ get_or runs i d →
+    drop i (conics_in runs) ≡ conic_at six 0 ∷ drop (i + 1) (conics_in runs)
+next_conic runs {i} {six} d below own =
+    let inside : i < length (conics_in runs) = omega (arith, length_listed runs) in
+    drop_more (conics_in runs) i (conic_at d 0) inside
+    ∙ ap (λ (h : Conic). h ∷ drop (i + 1) (conics_in runs))
+    (get_or-map (λ (s : List ℕ). conic_at s 0) runs i d (conic_at d 0) below ∙ ap (λ (s : List ℕ). conic_at s 0) (sym own))
 
-length_from : (n : ℕ) (list : List ℕ) (at : ℕ) → length (conics_from n list at) ≡ n
-unfolding conics_from
-length_from zero list at = refl
-length_from (suc n) list at = ap suc (length_from n list (at + 6))
-
-pub length_after : (list : List ℕ) (at : ℕ) → length (conics_after list at) ≡ (length list - at) / 6
-length_after list at = length_from ((length list - at) / 6) list at
-
-pub length_conics : (list : List ℕ) → length (conics_of list) ≡ length list / 6
-unfolding conics_of
-length_conics list = length_from (length list / 6) list 0
-
--- all in range, from a place on
-pub range_more : (list : List ℕ) (at : ℕ) → at + 6 ≤ length list → all_in_range (conics_after list at) ≡ in_range (conic_at list at) && all_in_range (conics_after list (at + 6))
+pub range_listed : (runs : List (List ℕ)) → list_all (λ six. in_range (conic_at six 0)) runs ≡ all_in_range (conics_in runs)
 unfolding all_in_range
-range_more list at h = ap all_in_range (after_more list at h)
+range_listed [] = refl
+range_listed (six ∷ runs) = ap (λ (t : Bool). in_range (conic_at six 0) && t) (range_listed runs)
 
-pub range_none : (list : List ℕ) (at : ℕ) → length list ≤ at → all_in_range (conics_after list at) ≡ true
-unfolding all_in_range
-range_none list at h = ap all_in_range (after_none list at h)
+-- six bytes, one by one
+six_bytes : (l : List ℕ) → length l ≡ 6 → get_or l 0 0 ∷ get_or l 1 0 ∷ get_or l 2 0 ∷ get_or l 3 0 ∷ get_or l 4 0 ∷ get_or l 5 0 ∷ [] ≡ l
+six_bytes [] h = absurd (omega arith)
+six_bytes (a ∷ []) h = absurd (omega arith)
+six_bytes (a ∷ b ∷ []) h = absurd (omega arith)
+six_bytes (a ∷ b ∷ c ∷ []) h = absurd (omega arith)
+six_bytes (a ∷ b ∷ c ∷ d ∷ []) h = absurd (omega arith)
+six_bytes (a ∷ b ∷ c ∷ d ∷ e ∷ []) h = absurd (omega arith)
+six_bytes (a ∷ b ∷ c ∷ d ∷ e ∷ f ∷ []) h = refl
+six_bytes (a ∷ b ∷ c ∷ d ∷ e ∷ f ∷ g ∷ l) h = absurd (omega arith)
 
--- the coefficients of a conic are the six bytes that it was read from
-six : (l : List ℕ) → 6 ≤ length l → take 6 l ≡ get_or l 0 0 ∷ get_or l 1 0 ∷ get_or l 2 0 ∷ get_or l 3 0 ∷ get_or l 4 0 ∷ get_or l 5 0 ∷ []
-six [] h = absurd (omega arith)
-six (a ∷ []) h = absurd (omega arith)
-six (a ∷ b ∷ []) h = absurd (omega arith)
-six (a ∷ b ∷ c ∷ []) h = absurd (omega arith)
-six (a ∷ b ∷ c ∷ d ∷ []) h = absurd (omega arith)
-six (a ∷ b ∷ c ∷ d ∷ e ∷ []) h = absurd (omega arith)
-six (a ∷ b ∷ c ∷ d ∷ e ∷ f ∷ l) h = refl
-
-pub coefficients_copied :
-    (list : List ℕ) (at : ℕ) → ((i : ℕ) → get_or list i 0 < 256) → at + 6 ≤ length list →
-    take 6 (drop at list) ≡ coefficients (conic_at list at)
+pub coefficients_back : (six : List ℕ) → length six ≡ 6 → ((i : ℕ) → get_or six i 0 < 256) → coefficients (conic_at six 0) ≡ six
 unfolding coefficients conic_at
-coefficients_copied list at small h =
-    let same : (i : ℕ) → get_or list i 0 ≡ unsigned 1 (signed 1 (get_or list i 0)) = λ i. sym (unsigned_signed 1 (get_or list i 0) (small i)) in
-    let long : 6 ≤ length (drop at list) = simp length-drop (omega arith) in
-    six (drop at list) long
-    ∙ simp (get_or-drop, add-zero)
-    (λ j. same at j ∷ same (at + 1) j ∷ same (at + 2) j ∷ same (at + 3) j ∷ same (at + 4) j ∷ same (at + 5) j ∷ [])
+coefficients_back six long small =
+    let same : (i : ℕ) → unsigned 1 (signed 1 (get_or six i 0)) ≡ get_or six i 0 =
+    λ i. unsigned_signed 1 (get_or six i 0) (small i) in
+    (λ j. same 0 j ∷ same 1 j ∷ same 2 j ∷ same 3 j ∷ same 4 j ∷ same 5 j ∷ []) ∙ six_bytes six long

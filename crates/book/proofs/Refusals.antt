@@ -12,8 +12,9 @@ use Rattle.number.proofs.Least.{false_of_not_true, not_true_of_false}
 use Rattle.point.proofs.Cases.{by_test}
 use Rattle.book.specs.Layout.{count_limit, count_of, kind_at, offset_at}
 use Rattle.book.specs.Reader.{ReaderAnswer, with_point, with_none_by_sign, with_none_by_prime, degenerate, no_entry, bodies_end, every_below, entry_holds, layout_holds, body_holds, content_of, reader_answer}
+use Rattle.book.specs.Steps.{LayoutRight}
 use Rattle.book.specs.Theorems.{BrokenLayout, no_count, too_short, too_many, wrong_kind, wrong_offset, wrong_end, BodyHolds, TwelveExactly, ThirteenExactly, SixteenExactly}
-use Rattle.book.proofs.Contents.{LayoutRight, entry_right, layout_right}
+use Rattle.book.proofs.Contents.{entry_right, layout_right}
 use Rattle.book.proofs.Every.{every_fails, every_gives, every_holds, every_not}
 use Rattle.book.proofs.Reading.{is_twelve, is_thirteen, is_sixteen, is_content}
 use Rattle.book.proofs.RightBodies.{right_of_test, test_of_right}

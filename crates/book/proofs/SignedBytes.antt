@@ -1,29 +1,37 @@
--- Signed numbers as unsigned ones: a negative number that fits has the range of its bytes added, and the upper half of the range is read
--- back as the negative ones. Assumes nothing.
+-- Signed numbers as unsigned ones: the four lowest bytes of one that fits are those of 64 bits, and the upper half of a range is read back
+-- as the negative ones. Assumes nothing.
 use mathlib.Core.Logic.{⊎_elim}
-use mathlib.Core.Path.{◌≡◌, refl, ap, ◌∙◌}
-use Prim.Native.Nat.{ℕ, zero, suc, ◌+◌, ◌*◌, ◌-◌, ◌^◌, ◌≤◌, ◌<◌}
-use native.Mathlib.Numerals.{add-one}
+use mathlib.Core.List.{◌∷◌}
+use mathlib.Core.Path.{◌≡◌, refl, ap, ap₂, ◌∙◌}
+use Prim.Native.Nat.{ℕ, zero, suc, ◌+◌, ◌*◌, ◌-◌, ◌/◌, ◌%◌, ◌^◌, ◌≤◌, ◌<◌}
+use native.Mathlib.Nat.{add-mul-mod_self_left, add-mul-div_left, mul_assoc, pow-succ'}
 use native.Mathlib.Omega.{arith}
-use lib.Dec.{ltb, ltb→lt}
-use lib.IntN.{ℤ, pos, negsuc, nat_abs, ◌+ℤ◌}
-use lib.Signed.{◌≤ℤ◌, ◌<ℤ◌}
+use lib.Dec.{lit<, ltb}
+use lib.IntN.{ℤ, pos, negsuc, nat_abs}
+use mir.Syntax.{w64}
+use mir.Val.{of_z}
 use borrow.Author.Tests.{lt-ltb, le-ltb, ltb-true, ltb-false}
 use Rattle.number.proofs.Least.{true_or_false}
 use Rattle.point.specs.Paper.{point_limit}
-use Rattle.book.specs.Bytes.{unsigned, signed, signed_below}
+use Rattle.book.specs.Bytes.{bytes, unsigned, signed, signed_below}
 
-pub unsigned_negative : (n : ℤ) → n <ℤ pos 0 → nat_abs n ≤ point_limit → n +ℤ pos 4_294_967_296 ≡ pos (unsigned 4 n)
-unfolding unsigned
-unsigned_negative (pos m) h small = let below : m < 0 = ltb→lt m 0 h.lt in absurd (omega arith)
-unsigned_negative (negsuc m) h small =
-    let fits : suc m ≤ 4_294_967_296 = omega arith in
-    rw (le-ltb 4_294_967_296 (suc m) fits, add-one)
+bytes_more : (n m q : ℕ) → bytes n (m + 256 ^ n * q) ≡ bytes n m
+unfolding bytes
+bytes_more zero m q = refl
+bytes_more (suc n) m q =
+    let more : m + 256 ^ suc n * q ≡ m + 256 * (256 ^ n * q) =
+    ap (λ (k : ℕ). m + k * q) (pow-succ' 256 n) ∙ ap (λ (k : ℕ). m + k) (mul_assoc 256 (256 ^ n) q) in
+    ap₂ ◌∷◌
+    (ap (λ (k : ℕ). k % 256) more ∙ add-mul-mod_self_left m 256 (256 ^ n * q))
+    (ap (bytes n) (ap (λ (k : ℕ). k / 256) more ∙ add-mul-div_left m (256 ^ n * q) (lit< tt)) ∙ bytes_more n (m / 256) q)
 
-pub unsigned_positive : (n : ℤ) → pos 0 ≤ℤ n → n ≡ pos (unsigned 4 n)
+-- the lowest four bytes of 64 bits
+pub lowest_four : (z : ℤ) → nat_abs z ≤ point_limit → bytes 4 (of_z w64 z) ≡ bytes 4 (unsigned 4 z)
 unfolding unsigned
-unsigned_positive (pos m) h = refl
-unsigned_positive (negsuc m) h = absurd h.le
+lowest_four (pos m) small = refl
+lowest_four (negsuc k) small =
+    let own : of_z w64 (negsuc k) ≡ 256 ^ 4 - (k + 1) + 256 ^ 4 * 4_294_967_295 = omega arith in
+    ap (bytes 4) own ∙ bytes_more 4 (256 ^ 4 - (k + 1)) 4_294_967_295
 
 -- the numbers of a range, read
 lower_half : (range m : ℕ) → 2 * m < range → signed_below range m ≡ pos m

@@ -7,10 +7,11 @@ use Prim.Native.Nat.{ℕ, ◌*◌, ◌%◌, ◌<◌}
 use lib.Dec.{ltb, eqb}
 use lib.ListN.{length}
 use borrow.Author.Tests.{lt-ltb, le-ltb, eq-eqb, ne_eqb}
+use Rattle.std.specs.Prelude.{Result, Ok}
+use Rattle.point.specs.declared.paper.Refusal.{Refusal}
 use Rattle.book.specs.Layout.{count_limit}
 use Rattle.book.specs.Steps.{BookPut, RightList}
 use Rattle.book.specs.Writer.{book_of, conics_of, all_in_range, wrong_list, WriterAnswer, no_book, book_length, written, writer_answer, left, WriterPromise}
-use Rattle.book.specs.declared.Written.{Written}
 
 module _ (list : List ℕ) where
   pub not_sixes : (length list % 6 ≡ 0 → ⊥) → wrong_list list ≡ true
@@ -47,13 +48,13 @@ module _ (list before : List ℕ) where
       is_length fits = rw (right_list list right, range, fits)
 
   -- a refusal, and a book
-  pub refused : {r : Written} {n : ℕ} → written r ≡ no_book n → writer_answer list before ≡ no_book n → WriterPromise list before r before
+  pub refused : {r : Result ℕ Refusal} {n : ℕ} → written r ≡ no_book n → writer_answer list before ≡ no_book n → WriterPromise list before r before
   unfolding left
   refused own e = record { answer = own ∙ sym e; buffer = sym (ap (λ (w : WriterAnswer). left w (book_of (conics_of list)) before) e) }
 
   pub booked :
       {r : ℕ} {after : List ℕ} → writer_answer list before ≡ book_length (length (book_of (conics_of list))) →
-      BookPut before (conics_of list) r after → WriterPromise list before (Written.Length r) after
+      BookPut before (conics_of list) r after → WriterPromise list before (Ok r) after
   unfolding left
   booked e put =
       record {

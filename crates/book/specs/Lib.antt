@@ -1,8 +1,9 @@
 pub mod Bytes
+pub mod Kinds
 pub mod Layout
 pub mod Writer
-pub mod Steps
 pub mod Reader
+pub mod Steps
 pub mod Theorems
 pub mod Refusals
 pub mod Examples

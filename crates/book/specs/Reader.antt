@@ -1,18 +1,18 @@
 -- The reader's entry: it judges the whole book first, 12 for a broken layout, then 13 for a body that isn't right, then 16 for a
 -- number that the book does not have. Assumes nothing.
-use Rattle.std.specs.Prelude.{Bool, true, false, ◌&&◌, not, cond, List, [], ◌∷◌, ◌≡◌, ℕ, zero, suc, ◌+◌, ◌*◌, eqb, leb, ltb, length, get_or}
+use Rattle.std.specs.Prelude.{Bool, true, false, ◌&&◌, not, cond, List, [], ◌∷◌, ◌≡◌, ℕ, zero, suc, ◌+◌, ◌*◌, eqb, leb, ltb, length, get_or, Option, Some, None, Result, Ok, Err}
 use Rattle.point.specs.Legal.{is_base}
 use Rattle.point.specs.Paper.{Verdict, point, none_by_sign, none_by_prime, refusal, number, is_zero}
 use Rattle.point.specs.declared.Point.{Point}
+use Rattle.point.specs.declared.paper.Refusal.{Refusal}
 use Rattle.conic.specs.Form.{G, Δ}
 use Rattle.conic.specs.Base.{in_range}
 use Rattle.conic.specs.declared.conic.Conic.{Conic}
+use Rattle.legendre.specs.declared.outcome.Reason.{Reason}
+use Rattle.solve.specs.Answer.{Answer}
 use Rattle.solve.specs.Solve.{solve_of}
-use Rattle.solve.specs.declared.Reason.{Reason}
 use Rattle.book.specs.Bytes.{number_at}
 use Rattle.book.specs.Layout.{count_limit, body_length, count_of, kind_at, offset_at, conic_at, point_at}
-use Rattle.book.specs.declared.Entry.{Entry}
-use Rattle.book.specs.declared.Stored.{Stored}
 
 -- where the bodies before entry i end
 unfoldable pub bodies_end : List ℕ → ℕ → ℕ
@@ -73,14 +73,22 @@ abbrev pub stored_reason : Conic → Reason → ReaderAnswer
 stored_reason h Reason.Sign = with_none_by_sign h
 stored_reason h (Reason.Prime l) = with_none_by_prime h l
 
+-- an answer as a book has it; none where the conic is degenerate
+abbrev pub Stored : Type 0
+Stored = Option Answer
+
 abbrev pub stored : Conic → Stored → ReaderAnswer
-stored h (Stored.Point p) = with_point h p
-stored h (Stored.None r) = stored_reason h r
-stored h Stored.Degenerate = degenerate h
+stored h (Some (Ok p)) = with_point h p
+stored h (Some (Err r)) = stored_reason h r
+stored h None = degenerate h
+
+-- a conic with its stored answer, or a refusal
+abbrev pub Entry : Type 0
+Entry = Result (Conic × Stored) Refusal
 
 abbrev pub entry : Entry → ReaderAnswer
-entry (Entry.Conic h s) = stored h s
-entry (Entry.Refused r) = no_entry (number r)
+entry (Ok e) = stored e.0 e.1
+entry (Err r) = no_entry (number r)
 
 -- what the body of a kind at a place says
 unfoldable pub content_of : ℕ → List ℕ → ℕ → ReaderAnswer

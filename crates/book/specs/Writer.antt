@@ -1,12 +1,12 @@
 -- The book of a list of conics, and the writer's entry: refusals 15, 1, 14, each leaving every byte. Assumes nothing.
-use Rattle.std.specs.Prelude.{Bool, true, ◌&&◌, ◌||◌, not, cond, List, [], ◌∷◌, ◌++◌, ◌≡◌, ℕ, zero, suc, ◌+◌, ◌*◌, ◌/◌, ◌%◌, eqb, ltb, length, drop}
+use Rattle.std.specs.Prelude.{Bool, true, ◌&&◌, ◌||◌, not, cond, List, [], ◌∷◌, ◌++◌, ◌≡◌, ℕ, zero, suc, ◌+◌, ◌*◌, ◌/◌, ◌%◌, eqb, ltb, length, drop, Result, Ok, Err}
 use Rattle.point.specs.Paper.{number}
+use Rattle.point.specs.declared.paper.Refusal.{Refusal}
 use Rattle.conic.specs.Base.{in_range}
 use Rattle.conic.specs.declared.conic.Conic.{Conic}
 use Rattle.solve.specs.Solve.{solve_of}
 use Rattle.book.specs.Bytes.{bytes}
 use Rattle.book.specs.Layout.{count_limit, body_length, kind_of, coefficients, added, conic_at}
-use Rattle.book.specs.declared.Written.{Written}
 
 -- the entries of conics whose bodies start at an offset
 unfoldable pub entries : ℕ → List Conic → List ℕ
@@ -41,9 +41,9 @@ pub data WriterAnswer : Type 0 where
   book_length : ℕ → WriterAnswer
   no_book : ℕ → WriterAnswer
 
-abbrev pub written : Written → WriterAnswer
-written (Written.Length n) = book_length n
-written (Written.Refused r) = no_book (number r)
+abbrev pub written : Result ℕ Refusal → WriterAnswer
+written (Ok n) = book_length n
+written (Err r) = no_book (number r)
 
 unfoldable pub writer_answer : List ℕ → List ℕ → WriterAnswer
 writer_answer list before =
@@ -61,6 +61,6 @@ left (book_length n) book before = book ++ drop n before
 left (no_book n) book before = before
 
 -- the promise of the writer
-pub record WriterPromise (list before : List ℕ) (r : Written) (after : List ℕ) : Type 0 where
+pub record WriterPromise (list before : List ℕ) (r : Result ℕ Refusal) (after : List ℕ) : Type 0 where
   pub answer : written r ≡ writer_answer list before
   pub buffer : after ≡ left (writer_answer list before) (book_of (conics_of list)) before

@@ -1,63 +1,52 @@
 // The reader of a book: the whole book is judged before an entry is given.
 #![tactic(auto)]
 
-ghost use Rattle.std.specs.Prelude.{◌≡◌, true, ◌&&◌, ◌+◌, ◌*◌, ◌≤◌, ◌<◌, eqb, length};
+ghost use Rattle.std.specs.Prelude.{◌≡◌, false, ◌&&◌, ◌+◌, ◌*◌, ◌≤◌, ◌<◌, length, IfSome, IfNone, IfOk, IfErr};
 ghost use Rattle.point.specs.Paper.{is_zero};
 ghost use Rattle.conic.specs.Form.{Δ};
 ghost use Rattle.conic.specs.Base.{in_range};
-ghost use Rattle.solve.specs.Answer.{solved};
 ghost use Rattle.solve.specs.Solve.{solve_of};
-ghost use Rattle.book.specs.Bytes.{number_at};
-ghost use Rattle.book.specs.Layout.{body_length, count_of, kind_at, conic_at};
-ghost use Rattle.book.specs.Steps.{Contents};
-ghost use Rattle.book.specs.Reader.{bodies_end, every_below, entry_holds, layout_holds, is_none_by_sign, is_none_by_prime, is_right_point, is_right, body_holds, entry, content_of, ReaderPromise};
+ghost use Rattle.book.specs.Kinds.{kind_number};
+ghost use Rattle.book.specs.Layout.{body_length, count_of};
+ghost use Rattle.book.specs.Reader.{bodies_end, every_below, layout_holds, is_right_point, is_right, body_holds};
+ghost use Rattle.book.specs.Reader.{stored, content_of, ReaderPromise};
+ghost use Rattle.book.specs.Steps.{EntryRight, EntriesRight, LayoutRight, BodyAt, Contents};
 
-use book::{Entry, Stored, bytes, layout};
+use book::kind::Kind;
+use book::{Stored, bytes, layout};
 use conic::base;
-use conic::base::Judged;
 use conic::conic::Conic;
+use point::Point;
 use point::paper::Refusal;
-use point::{Point, size};
-use solve::{Answer, Reason, Solved};
+use solve::Reason;
 
-// The kind in an entry.
-fn kind_at(book: &[u8], i: usize) -> usize
-    requires { 2 + 3 * i < length book.now }
-    ensures { result ≡ kind_at book.now i }
+// Where the body of entry i ends; none if its kind isn't 1 to 4, or its offset isn't the start, where the bodies
+// before it end.
+// By index: Layout says entry i by its place in the book (kind_at, offset_at), and a slice of entries would need it
+// said twice.
+fn body_end(book: &[u8], i: usize, start: usize) -> Option<usize>
+    requires { (5 + 3 * i ≤ length book.now) × (start ≡ bodies_end book.now i) × (start ≤ 65_536) }
+    ensures some { IfSome result (λ end. EntryRight book.now i × (end ≡ bodies_end book.now (i + 1))) }
+    ensures none { IfNone result (¬ EntryRight book.now i) }
 {
-    bytes::wide(book[2 + 3 * i]) as usize
+    let kind = Kind::try_from(book[2 + 3 * i]).ok()?;
+    if bytes::number_at::<2>(book, 3 + 3 * i) != start as u64 {
+        return None;
+    }
+    Some(start + kind.body_length())
 }
 
-// Whether an entry's kind is 1 to 4 and its offset is where the bodies before it end.
-fn entry_holds(book: &[u8], i: usize, end: usize) -> bool
-    requires { (5 + 3 * i ≤ length book.now) × (end ≡ bodies_end book.now i) }
-    ensures { result ≡ entry_holds book.now i }
-{
-    let kind = kind_at(book, i);
-    if kind < 1 {
-        return false;
-    }
-    if kind > 4 {
-        return false;
-    }
-    bytes::two_at(book, 3 + 3 * i) == end as u64
-}
-
-// Whether each entry holds and the last body ends with the book: a step for each entry.
-fn entries_hold(book: &[u8], count: usize) -> bool
+// Where the last body ends, if each entry holds: a step for each.
+fn last_end(book: &[u8], count: usize) -> Option<usize>
     requires { Contents book.now count }
-    ensures { result ≡ every_below (entry_holds book.now) count && eqb (bodies_end book.now count) (length book.now) }
+    ensures some { IfSome result (λ end. EntriesRight book.now × (end ≡ bodies_end book.now count)) }
+    ensures none { IfNone result (¬ EntriesRight book.now) }
 {
     let mut end = 2 + 3 * count;
-    let mut i = 0;
-    while i < count {
-        if !entry_holds(book, i, end) {
-            return false;
-        }
-        end += layout::body_length(kind_at(book, i));
-        i += 1;
+    for i in 0..count {
+        end = body_end(book, i, end)?;
     }
-    end == book.len()
+    Some(end)
 }
 
 // Whether the layout holds: a step for each entry.
@@ -67,144 +56,126 @@ fn layout_holds(book: &[u8]) -> bool
     if book.len() < 2 {
         return false;
     }
-    let count = bytes::two_at(book, 0) as usize;
-    if book.len() < 2 + 3 * count {
+    let count = bytes::number_at::<2>(book, 0) as usize;
+    if count > layout::COUNT_LIMIT || book.len() < 2 + 3 * count {
         return false;
     }
-    if count > layout::COUNT_LIMIT {
-        return false;
-    }
-    entries_hold(book, count)
-}
-
-// Three tests.
-fn is_none_by_sign(answer: Solved) -> bool
-    ensures { result ≡ is_none_by_sign (solved answer) }
-{
-    let Solved::Answer(a) = answer else {
-        return false;
-    };
-    let Answer::None(why) = a else {
-        return false;
-    };
-    if let Reason::Sign = why { true } else { false }
-}
-
-// Four tests.
-fn is_none_by_prime(prime: u64, answer: Solved) -> bool
-    ensures { result ≡ is_none_by_prime prime (solved answer) }
-{
-    let Solved::Answer(a) = answer else {
-        return false;
-    };
-    let Answer::None(why) = a else {
-        return false;
-    };
-    if let Reason::Prime(l) = why {
-        l == prime
-    } else {
-        false
-    }
+    last_end(book, count) == Some(book.len())
 }
 
 // Whether a conic is in range and not degenerate, and a point is a legal base on it. Nothing is solved.
 fn is_right_point(h: Conic, p: Point) -> bool
     ensures { result ≡ is_right_point h p }
 {
-    let judged = base::judge(h, p);
-    match judged {
-        Judged::Legal => true,
-        Judged::Refused(_) => false,
-    }
+    base::judge(h, p).is_ok()
 }
 
-// Whether solve gives none by sign on the conic at a place.
-fn is_right_sign(book: &[u8], at: usize) -> bool
-    requires { at + 6 ≤ length book.now }
-    ensures { result ≡ is_none_by_sign (solve_of (conic_at book.now at)) }
-{
-    is_none_by_sign(solve::solve(layout::conic_at(book, at)))
-}
-
-// Whether solve names the stored prime on the conic at a place.
-fn is_right_prime(book: &[u8], at: usize) -> bool
-    requires { at + 10 ≤ length book.now }
-    ensures { result ≡ is_none_by_prime (number_at 4 book.now (at + 6)) (solve_of (conic_at book.now at)) }
-{
-    let prime = bytes::four_at(book, at + 6);
-    is_none_by_prime(prime, solve::solve(layout::conic_at(book, at)))
-}
-
-// Whether a conic is in range and degenerate. Nothing is solved.
+// Whether a conic is in range and degenerate. Nothing is solved. To compare what judge_conic answers would be no
+// plainer: its proof goes through fourteen cases of the derived equality.
 fn is_degenerate(h: Conic) -> bool
     ensures { result ≡ in_range h && is_zero (Δ h) }
 {
-    if !h.in_range() {
-        return false;
-    }
-    size::is_zero(h.determinant())
+    h.in_range() && h.determinant() == 0
 }
 
-// Whether the body of a kind at a place is right: kinds 2 and 3 are solved.
-fn is_right(kind: usize, book: &[u8], at: usize) -> bool
-    requires { at + body_length kind ≤ length book.now }
-    ensures { result ≡ is_right kind book.now at }
-{
-    match kind {
-        1 => is_right_point(layout::conic_at(book, at), layout::point_at(book, at + 6)),
-        2 => is_right_sign(book, at),
-        3 => is_right_prime(book, at),
-        4 => is_degenerate(layout::conic_at(book, at)),
-        _ => false,
-    }
+// A body in a book.
+#[derive(Clone, Copy)]
+struct Body<'a> {
+    book: &'a [u8],
+    kind: Kind,
+    at: usize,
+    ghost within: { at + body_length (kind_number kind) ≤ length book.now },
 }
 
-// Whether every body is right: solves each conic of kinds 2 and 3.
-fn bodies_hold(book: &[u8], count: usize) -> bool
-    requires { (count ≡ count_of book.now) × (layout_holds book.now ≡ true) }
-    ensures { result ≡ every_below (body_holds book.now) count }
-{
-    let mut at = 2 + 3 * count;
-    let mut i = 0;
-    while i < count {
-        let kind = kind_at(book, i);
-        if !is_right(kind, book, at) {
-            return false;
+impl<'a> Body<'a> {
+    // The conic with its stored answer.
+    fn content(&self) -> (Conic, Stored)
+        ensures { stored result.0 result.1 ≡ content_of (kind_number self.now.kind) self.now.book.now self.now.at }
+    {
+        let h = layout::conic_at(self.book, self.at);
+        match self.kind {
+            Kind::Point => (h, Some(Ok(layout::point_at(self.book, self.at + 6)))),
+            Kind::Sign => (h, Some(Err(Reason::Sign))),
+            Kind::Prime => {
+                let prime = bytes::number_at::<4>(self.book, self.at + 6);
+                (h, Some(Err(Reason::Prime(prime))))
+            },
+            Kind::Degenerate => (h, None),
         }
-        at += layout::body_length(kind);
-        i += 1;
     }
-    true
+
+    // Whether it is right: kinds 2 and 3 are solved.
+    fn is_right(&self) -> bool
+        ensures { result ≡ is_right (kind_number self.now.kind) self.now.book.now self.now.at }
+    {
+        let (h, stored) = self.content();
+        match stored {
+            Some(Ok(p)) => is_right_point(h, p),
+            Some(Err(reason)) => solve::solve(h) == Ok(Err(reason)),
+            None => is_degenerate(h),
+        }
+    }
 }
 
-// The conic of a number with its stored answer; its entry says where its body is.
-fn content_at(book: &[u8], i: usize) -> Entry
-    requires { (layout_holds book.now ≡ true) × (i < count_of book.now) }
-    ensures { entry result ≡ content_of (kind_at book.now i) book.now (bodies_end book.now i) }
-{
-    let at = bytes::two_at(book, 3 + 3 * i) as usize;
-    let h = layout::conic_at(book, at);
-    match kind_at(book, i) {
-        1 => Entry::Conic(h, Stored::Point(layout::point_at(book, at + 6))),
-        2 => Entry::Conic(h, Stored::None(Reason::Sign)),
-        3 => Entry::Conic(h, Stored::None(Reason::Prime(bytes::four_at(book, at + 6)))),
-        _ => Entry::Conic(h, Stored::Degenerate),
+// A book whose layout holds.
+#[derive(Clone, Copy)]
+struct Book<'a> {
+    bytes: &'a [u8],
+    ghost laid: { LayoutRight bytes.now },
+}
+
+impl<'a> Book<'a> {
+    // Refusal 12 where the layout doesn't hold: a step for each entry.
+    fn new(bytes: &'a [u8]) -> Result<Self, Refusal>
+        ensures ok { IfOk result (λ b. b.bytes.now ≡ bytes.now) }
+        ensures err { IfErr result (λ e. (e ≡ Refusal.Layout) × (layout_holds bytes.now ≡ false)) }
+    {
+        if layout_holds(bytes) {
+            Ok(Book { bytes })
+        } else {
+            Err(Refusal::Layout)
+        }
+    }
+
+    // The number of conics.
+    fn count(&self) -> usize
+        ensures { result ≡ count_of self.now.bytes.now }
+    {
+        bytes::number_at::<2>(self.bytes, 0) as usize
+    }
+
+    // The body of a conic: its entry, by its place as in body_end, has the kind and says where it is.
+    fn body(&self, i: usize) -> Body<'a>
+        requires { i < count_of self.now.bytes.now }
+        ensures { (result.book.now ≡ self.now.bytes.now) × BodyAt self.now.bytes.now i result.kind result.at }
+    {
+        let kind = Kind::try_from(self.bytes[2 + 3 * i]).unwrap();
+        let at = bytes::number_at::<2>(self.bytes, 3 + 3 * i) as usize;
+        Body {
+            book: self.bytes,
+            kind,
+            at,
+        }
+    }
+
+    // Whether every body is right: solves each conic of kinds 2 and 3.
+    fn bodies_hold(&self) -> bool
+        ensures { result ≡ every_below (body_holds self.now.bytes.now) (count_of self.now.bytes.now) }
+    {
+        (0..self.count()).all(|i| self.body(i).is_right())
     }
 }
 
 // Judges the whole book first: a step for each entry, and each conic of kinds 2 and 3 is solved.
-pub fn read(book: &[u8], number: u64) -> Entry
+pub fn read(book: &[u8], number: u64) -> Result<(Conic, Stored), Refusal>
     ensures { ReaderPromise book.now number result }
 {
-    if !layout_holds(book) {
-        return Entry::Refused(Refusal::Layout);
+    let laid = Book::new(book)?;
+    if !laid.bodies_hold() {
+        return Err(Refusal::Body);
     }
-    let count = bytes::two_at(book, 0);
-    if !bodies_hold(book, count as usize) {
-        return Entry::Refused(Refusal::Body);
+    if number >= laid.count() as u64 {
+        return Err(Refusal::Number);
     }
-    if number >= count {
-        return Entry::Refused(Refusal::Number);
-    }
-    content_at(book, number as usize)
+    Ok(laid.body(number as usize).content())
 }

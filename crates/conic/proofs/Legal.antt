@@ -10,15 +10,44 @@ use Rattle.point.specs.declared.Point.{Point}
 use Rattle.point.proofs.Cases.{cond_cases, when, unless}
 use Rattle.point.proofs.Tests.{is_zero_iff}
 use Rattle.point.proofs.Limits.{base_within}
-use Rattle.conic.specs.Base.{LegalBase, from_base, Judgement, legal, refused, judged_of, in_range}
+use Rattle.conic.specs.Base.{LegalBase, from_base, Judgement, legal, refused, conic_judged, judged_of, in_range}
 use Rattle.conic.specs.Form.{G, Δ}
 use Rattle.conic.specs.Sizes.{ConicAt}
 use Rattle.conic.specs.declared.conic.Conic.{Conic}
 use Rattle.conic.proofs.Sizes.{in_limit}
 
+-- ---- a conic alone
+
+module _ (h : Conic) where
+  pub conic_range : in_range h ≡ false → refused 1 ≡ conic_judged h
+  unfolding conic_judged
+  conic_range out = unless _ _ out
+
+  pub conic_degenerate : in_range h ≡ true → is_zero (Δ h) ≡ true → refused 2 ≡ conic_judged h
+  unfolding conic_judged
+  conic_degenerate ranged flat = when _ _ flat ∙ when _ _ ranged
+
+  pub conic_legal : in_range h ≡ true → is_zero (Δ h) ≡ false → legal ≡ conic_judged h
+  unfolding conic_judged
+  conic_legal ranged curved = unless _ _ curved ∙ when _ _ ranged
+
+  pub conic_past : legal ≡ conic_judged h → (in_range h ≡ true) × (is_zero (Δ h) ≡ false)
+  unfolding conic_judged
+  conic_past e =
+      cond_cases (λ j. legal ≡ j → (in_range h ≡ true) × (is_zero (Δ h) ≡ false)) (in_range h)
+      (λ ranged. cond_cases (λ j. legal ≡ j → (in_range h ≡ true) × (is_zero (Δ h) ≡ false)) (is_zero (Δ h))
+      (λ flat e. cc) (λ curved e. (ranged, curved))) (λ out e. cc) e
+
 -- ---- the refusals that the direction entries share
 
 module _ (h : Conic) (p : Point) where
+  pub conic_refused : {n : ℕ} → refused n ≡ conic_judged h → refused n ≡ judged_of h p
+  unfolding conic_judged judged_of from_base
+  conic_refused {n} e =
+      cond_cases (λ j. refused n ≡ j → refused n ≡ judged_of h p) (in_range h)
+      (λ ranged. cond_cases (λ j. refused n ≡ j → refused n ≡ judged_of h p) (is_zero (Δ h))
+      (λ flat e. e ∙ when _ _ flat ∙ when _ _ ranged) (λ curved e. cc)) (λ out e. e ∙ unless _ _ out) e
+
   pub judged_range : in_range h ≡ false → refused 1 ≡ judged_of h p
   unfolding judged_of from_base
   judged_range out = unless _ _ out

@@ -1,12 +1,12 @@
 -- What the entries ask of a conic with its base: in range, not degenerate, and the base legal and on it, or the first of the refusals
 -- 1, 2, 5, 6. Assumes nothing.
-use Rattle.std.specs.Prelude.{◌≡◌, Bool, ◌&&◌, cond, ℕ, T, pos}
+use Rattle.std.specs.Prelude.{◌≡◌, Bool, ◌&&◌, cond, ℕ, T, pos, Result, Ok, Err}
 use Rattle.point.specs.Paper.{is_zero, number, coefficient_limit, within}
 use Rattle.point.specs.Legal.{is_base}
 use Rattle.point.specs.declared.Point.{Point}
+use Rattle.point.specs.declared.paper.Refusal.{Refusal}
 use Rattle.conic.specs.Form.{G, Δ}
 use Rattle.conic.specs.declared.conic.Conic.{Conic}
-use Rattle.conic.specs.declared.base.Judged.{Judged}
 
 -- each coefficient is within the limit
 unfoldable pub in_range : Conic → Bool
@@ -26,9 +26,13 @@ pub data Judgement : Type 0 where
   legal : Judgement
   refused : ℕ → Judgement
 
-abbrev pub judged : Judged → Judgement
-judged Judged.Legal = legal
-judged (Judged.Refused r) = refused (number r)
+abbrev pub judged : Result (Unit {0}) Refusal → Judgement
+judged (Ok u) = legal
+judged (Err r) = refused (number r)
+
+-- a conic alone: the first two
+unfoldable pub conic_judged : Conic → Judgement
+conic_judged h = cond (in_range h) (cond (is_zero (Δ h)) (refused 2) legal) (refused 1)
 
 unfoldable pub judged_of : Conic → Point → Judgement
 judged_of h p = from_base refused h p legal

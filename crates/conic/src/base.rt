@@ -1,34 +1,36 @@
-// A conic with a base point on it, and the refusals of others.
+// What the entries ask of a conic and of a base on it, and the refusals of others.
 ghost use Rattle.std.specs.Prelude.{◌≡◌};
-ghost use Rattle.conic.specs.Base.{judged, judged_of};
+ghost use Rattle.conic.specs.Base.{judged, conic_judged, judged_of};
 
 use crate::conic::Conic;
+use point::Point;
 use point::paper::Refusal;
-use point::{Point, size};
 
-// Whether a conic and a base are what both direction entries ask for.
-#[derive(Clone, Copy)]
-pub enum Judged {
-    Legal,
-    Refused(Refusal),
-}
-
-// Some fifty steps and two greatest common divisors.
-pub fn judge(h: Conic, base: Point) -> Judged
-    ensures { judged result ≡ judged_of h base }
+// Whether a conic is what every entry asks for: some thirty steps.
+pub fn judge_conic(h: Conic) -> Result<(), Refusal>
+    ensures { judged result ≡ conic_judged h }
 {
     if !h.in_range() {
-        return Judged::Refused(Refusal::Range);
+        return Err(Refusal::Range);
     }
-    if size::is_zero(h.determinant()) {
-        return Judged::Refused(Refusal::Degenerate);
+    if h.determinant() == 0 {
+        return Err(Refusal::Degenerate);
     }
+    Ok(())
+}
+
+// Whether a conic and a base are what both direction entries ask for: some fifty steps and two greatest common
+// divisors.
+pub fn judge(h: Conic, base: Point) -> Result<(), Refusal>
+    ensures { judged result ≡ judged_of h base }
+{
+    judge_conic(h)?;
     if !base.is_base() {
-        return Judged::Refused(Refusal::Base);
+        return Err(Refusal::Base);
     }
-    if size::is_zero(h.at(base)) {
-        Judged::Legal
+    if h.at(base) == 0 {
+        Ok(())
     } else {
-        Judged::Refused(Refusal::BaseOff)
+        Err(Refusal::BaseOff)
     }
 }

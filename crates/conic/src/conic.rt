@@ -1,4 +1,5 @@
-// A conic: the row of its six coefficients; its polynomial G, the partial derivatives, L, D, Δ and k, and the second point of a line.
+// A conic: the row of its six coefficients; its polynomial G, the partial derivatives, L, D, Δ and k, and the
+// second point of a line.
 ghost use Rattle.std.specs.Prelude.{◌≡◌, ◌*ℤ◌, ◌+ℤ◌};
 ghost use Rattle.point.specs.Normal.{normal};
 ghost use Rattle.conic.specs.Base.{in_range};
@@ -26,8 +27,10 @@ fn dot(a: i64, b: i64, c: i64, x: i64, y: i64, z: i64) -> i64
     a * x + b * y + c * z
 }
 
+// The polynomials ask by clauses that a conic is in limit and a point within one: docs/PROMISES.md has these
+// functions of any conic and any point that meet them, so no type stands for either.
 impl Conic {
-    // Whether each coefficient, any number, is within the limit: twelve comparisons.
+    // Whether each coefficient, any number, is within the limit: six comparisons.
     pub fn in_range(self) -> bool
         ensures { result ≡ in_range self }
     {
@@ -70,7 +73,8 @@ impl Conic {
             + dot(self.b, self.d, self.e, x * y, x * z, y * z)
     }
 
-    // Six steps, as those by y and by z.
+    // Six steps, as those by y and by z. Three functions, not one of the variable's number: docs/PROMISES.md names
+    // two of them, and each doubles another coefficient.
     pub fn derivative_by_x(self, p: Point) -> i64
         requires { ConicAt self p }
         ensures { result ≡ Gx self p }

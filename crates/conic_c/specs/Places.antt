@@ -5,8 +5,6 @@ use Rattle.point.specs.Paper.{Verdict, point, none_by_sign, none_by_prime, refus
 use Rattle.point.specs.declared.Point.{Point}
 use Rattle.point.specs.declared.Direction.{Direction}
 use Rattle.conic.specs.declared.conic.Conic.{Conic}
-use Rattle.solve.specs.Answer.{reason_given}
-use Rattle.solve.specs.declared.Reason.{Reason}
 use Rattle.direction.specs.Direction.{Bearing, direction, no_direction}
 use Rattle.book.specs.Reader.{ReaderAnswer, with_point, with_none_by_sign, with_none_by_prime, degenerate, no_entry}
 use Rattle.conic_c.specs.Codes.{code, to_solve, to_book_read}
@@ -50,11 +48,6 @@ stored_verdict (with_none_by_sign h) = none_by_sign
 stored_verdict (with_none_by_prime h l) = none_by_prime l
 stored_verdict (degenerate h) = refusal 2
 stored_verdict (no_entry n) = refusal n
-
--- a none: its code, and the place of a prime
-pub record HandedReason (why : Reason) (prime : ℕ) (r : ℤ) (prime' : ℕ) : Type 0 where
-  pub code_is : r ≡ code (to_solve (reason_given why))
-  pub prime_is : prime' ≡ prime_left (reason_given why) prime
 
 -- an answer of solve: its code, and the places of a point and a prime
 pub record HandedVerdict (v : Verdict) (point : List ℤ) (prime : ℕ) (r : ℤ) (point' : List ℤ) (prime' : ℕ) : Type 0 where

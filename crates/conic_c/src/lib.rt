@@ -1,14 +1,13 @@
-// The library for callers in C and Rust: six functions in flat form, each for every input. An answer's code is 0 or more, a refusal's is
-// minus the paper's number; exactly the places named for a code are written.
+// The library for callers in C and Rust: six functions in flat form, each for every input. An answer's code is 0 or
+// more, a refusal's is minus the paper's number; exactly the places named for a code are written. Numbers that stand
+// apart, codes and places are the C interface.
 #![tactic(auto)]
 
-ghost use Rattle.conic_c.specs.Promises.{ConicSolve, ConicPoint, ConicDirection, ConicRow, ConicBookWrite, ConicBookRead};
+ghost use Rattle.conic_c.specs.Promises.{ConicSolve, ConicPoint, ConicDirection};
+ghost use Rattle.conic_c.specs.Promises.{ConicRow, ConicBookWrite, ConicBookRead};
 
-use book::Entry;
 use conic::conic::Conic;
-use direction::{Directed, Reached};
 use point::{Direction, Point};
-use solve::Solved;
 
 mod place;
 
@@ -28,8 +27,8 @@ pub extern "C" fn conic_solve(
         point.old prime.old result point.new prime.new }
 {
     match solve::solve(Conic { a, b, c, d, e, f }) {
-        Solved::Answer(answer) => place::put_answer(answer, point, prime),
-        Solved::Refused(refusal) => place::refused(refusal),
+        Ok(answer) => place::put_answer(answer, point, prime),
+        Err(refusal) => place::refused(refusal),
     }
 }
 
@@ -59,11 +58,11 @@ pub extern "C" fn conic_point(
         z: pz,
     };
     match direction::point_of(h, base, Direction { u, v }) {
-        Reached::Point(p) => {
+        Ok(p) => {
             place::put_point(p, point);
             0
         },
-        Reached::Refused(refusal) => place::refused(refusal),
+        Err(refusal) => place::refused(refusal),
     }
 }
 
@@ -99,11 +98,11 @@ pub extern "C" fn conic_direction(
         z: qz,
     };
     match direction::direction_of(h, base, target) {
-        Directed::Direction(t) => {
+        Ok(t) => {
             place::put_direction(t, direction);
             0
         },
-        Directed::Refused(refusal) => place::refused(refusal),
+        Err(refusal) => place::refused(refusal),
     }
 }
 
@@ -113,24 +112,26 @@ pub extern "C" fn conic_row(text: &[u8], out: &mut [u8]) -> i64
     ensures { ConicRow text.now out.old result out.new }
 {
     match row::row(text, out) {
-        row::Written::Length(n) => n as i64,
-        row::Written::Refused(refusal) => place::refused(refusal),
+        Ok(n) => n as i64,
+        Err(refusal) => place::refused(refusal),
     }
 }
 
-// The length of the book that was written. The cost is the writer's.
+// The length of the book that was written. The cost is the writer's. The arms are those of `conic_row`: a function for
+// both would ask that a length fits a code, which only each writer's promise says.
+#[tactic(auto, using(crate::proofs::Lengths::book_within))]
 #[unsafe(no_mangle)]
 pub extern "C" fn conic_book_write(list: &[u8], book: &mut [u8]) -> i64
     ensures { ConicBookWrite list.now book.old result book.new }
 {
     match book_writer::write(list, book) {
-        book::Written::Length(n) => n as i64,
-        book::Written::Refused(refusal) => place::refused(refusal),
+        Ok(n) => n as i64,
+        Err(refusal) => place::refused(refusal),
     }
 }
 
-// 1: the conic and the point; 2, none by sign, and 4, degenerate: the conic; 3, none by a prime: the conic and the prime. The cost is the
-// reader's and at most nine stores.
+// 1: the conic and the point; 2, none by sign, and 4, degenerate: the conic; 3, none by a prime: the conic and the
+// prime. The cost is the reader's and at most nine stores.
 #[unsafe(no_mangle)]
 pub extern "C" fn conic_book_read(
     book: &[u8],
@@ -143,7 +144,7 @@ pub extern "C" fn conic_book_read(
         conic.new point.new prime.new }
 {
     match book_reader::read(book, number) {
-        Entry::Conic(h, stored) => place::put_entry(h, stored, conic, point, prime),
-        Entry::Refused(refusal) => place::refused(refusal),
+        Ok((h, stored)) => place::put_entry(h, stored, conic, point, prime),
+        Err(refusal) => place::refused(refusal),
     }
 }

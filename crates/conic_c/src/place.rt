@@ -1,10 +1,10 @@
-// An answer into lent places, and its code.
+// An answer into lent places, and its code. Codes and places are the C interface.
 ghost use Rattle.std.specs.Prelude.{◌≡◌};
 ghost use Rattle.point.specs.Paper.{number};
 ghost use Rattle.solve.specs.Answer.{answered};
 ghost use Rattle.book.specs.Reader.{stored};
 ghost use Rattle.conic_c.specs.Codes.{refused};
-ghost use Rattle.conic_c.specs.Places.{coordinates, coefficients, components, HandedReason, HandedVerdict, HandedEntry};
+ghost use Rattle.conic_c.specs.Places.{coordinates, coefficients, components, HandedVerdict, HandedEntry};
 
 use book::Stored;
 use conic::conic::Conic;
@@ -19,7 +19,7 @@ pub fn refused(refusal: Refusal) -> i64
     -(refusal.number() as i64)
 }
 
-// Three stores.
+// Three stores. No `From` of arrays: each impl would be these lines again, in the crate of the type.
 pub fn put_point(p: Point, place: &mut [i64; 3])
     ensures { place.new ≡ coordinates p }
 {
@@ -40,29 +40,20 @@ fn put_conic(h: Conic, place: &mut [i64; 6])
     *place = [h.a, h.b, h.c, h.d, h.e, h.f];
 }
 
-// The code of a none; at most one store.
-fn put_reason(reason: Reason, prime: &mut u64) -> i64
-    ensures { HandedReason reason prime.old result prime.new }
-{
-    match reason {
-        Reason::Sign => 2,
-        Reason::Prime(l) => {
-            *prime = l;
-            3
-        },
-    }
-}
-
 // The code of an answer; at most three stores.
 pub fn put_answer(answer: Answer, point: &mut [i64; 3], prime: &mut u64) -> i64
     ensures { HandedVerdict (answered answer) point.old prime.old result point.new prime.new }
 {
     match answer {
-        Answer::Point(p) => {
+        Ok(p) => {
             put_point(p, point);
             1
         },
-        Answer::None(reason) => put_reason(reason, prime),
+        Err(Reason::Sign) => 2,
+        Err(Reason::Prime(l)) => {
+            *prime = l;
+            3
+        },
     }
 }
 
@@ -79,11 +70,7 @@ pub fn put_entry(
 {
     put_conic(h, conic);
     match content {
-        Stored::Point(p) => {
-            put_point(p, point);
-            1
-        },
-        Stored::None(reason) => put_reason(reason, prime),
-        Stored::Degenerate => 4,
+        Some(answer) => put_answer(answer, point, prime),
+        None => 4,
     }
 }

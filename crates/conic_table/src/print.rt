@@ -1,43 +1,59 @@
-// A row's parts, in the paper's words.
+// What rows show, in the paper's words. Display is std's and the types are the libraries', so each impl stands on a
+// wrapper.
 use conic::conic::Conic;
 use point::paper::Refusal;
 use point::{Direction, Point};
-use solve::{Answer, Reason};
-use std::io;
+use solve::Reason;
+use std::fmt::{self, Display};
 
-pub fn print_conic(rt: &impl Print, h: Conic) -> io::Result<()> {
-    print!(rt; " {} {} {} {} {} {}", h.a, h.b, h.c, h.d, h.e, h.f)
-}
+#[derive(Drop)]
+pub struct Shown<T>(pub T);
 
-pub fn print_point(rt: &impl Print, p: Point) -> io::Result<()> {
-    print!(rt; " {} {} {}", p.x, p.y, p.z)
-}
-
-pub fn print_direction(rt: &impl Print, t: Direction) -> io::Result<()> {
-    print!(rt; " {} {}", t.u, t.v)
-}
-
-pub fn print_refusal(rt: &impl Print, refusal: Refusal) -> io::Result<()> {
-    print!(rt; ": R {}", refusal.number())
-}
-
-fn print_reason(rt: &impl Print, reason: Reason) -> io::Result<()> {
-    match reason {
-        Reason::Sign => print!(rt; ": N sign"),
-        Reason::Prime(prime) => print!(rt; ": N prime {prime}"),
+impl Display for Shown<Conic> {
+    fn fmt<W: fmt::Write>(&self, f: &mut fmt::Formatter<W>) -> fmt::Result {
+        let h = self.0;
+        write!(f, " {} {} {} {} {} {}", h.a, h.b, h.c, h.d, h.e, h.f)
     }
 }
 
-pub fn print_answer(rt: &impl Print, answer: Answer) -> io::Result<()> {
-    match answer {
-        Answer::Point(p) => {
-            print!(rt; ": P")?;
-            print_point(rt, p)
+impl Display for Shown<Point> {
+    fn fmt<W: fmt::Write>(&self, f: &mut fmt::Formatter<W>) -> fmt::Result {
+        let Point { x, y, z } = self.0;
+        write!(f, "P {x} {y} {z}")
+    }
+}
+
+impl Display for Shown<Direction> {
+    fn fmt<W: fmt::Write>(&self, f: &mut fmt::Formatter<W>) -> fmt::Result {
+        let Direction { u, v } = self.0;
+        write!(f, "D {u} {v}")
+    }
+}
+
+impl Display for Shown<Reason> {
+    fn fmt<W: fmt::Write>(&self, f: &mut fmt::Formatter<W>) -> fmt::Result {
+        match self.0 {
+            Reason::Sign => write!(f, "N sign"),
+            Reason::Prime(prime) => write!(f, "N prime {prime}"),
         }
-        Answer::None(reason) => print_reason(rt, reason),
     }
 }
 
-pub fn end_row(rt: &impl Print) -> io::Result<()> {
-    println!(rt;)
+impl Display for Shown<Refusal> {
+    fn fmt<W: fmt::Write>(&self, f: &mut fmt::Formatter<W>) -> fmt::Result {
+        write!(f, "R {}", self.0.number())
+    }
+}
+
+impl<T: Copy, E: Copy> Display for Shown<Result<T, E>>
+where
+    Shown<T>: Display,
+    Shown<E>: Display,
+{
+    fn fmt<W: fmt::Write>(&self, f: &mut fmt::Formatter<W>) -> fmt::Result {
+        match self.0 {
+            Ok(value) => Shown(value).fmt(f),
+            Err(error) => Shown(error).fmt(f),
+        }
+    }
 }

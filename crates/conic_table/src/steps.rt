@@ -1,9 +1,38 @@
 // Base points, and the answers of the two direction steps.
-use crate::print::{end_row, print_conic, print_direction, print_point, print_refusal};
+use crate::print::Shown;
 use conic::conic::Conic;
-use direction::{Directed, Reached};
 use point::{Direction, Point};
+use std::fmt::{self, Display};
 use std::io;
+
+// From a base along a direction; shown with the point that it leads to.
+#[derive(Drop)]
+pub struct PointRow(Conic, Point, Direction);
+
+impl Display for PointRow {
+    fn fmt<W: fmt::Write>(&self, f: &mut fmt::Formatter<W>) -> fmt::Result {
+        let PointRow(h, base, t) = *self;
+        let reached = Shown(direction::point_of(h, base, t));
+        let Point { x, y, z } = base;
+        let Direction { u, v } = t;
+        write!(f, "{} from {x} {y} {z} along {u} {v}: {reached}", Shown(h))
+    }
+}
+
+// From a base to a target; shown with the direction that leads there.
+#[derive(Drop)]
+pub struct DirectionRow(Conic, Point, Point);
+
+impl Display for DirectionRow {
+    fn fmt<W: fmt::Write>(&self, f: &mut fmt::Formatter<W>) -> fmt::Result {
+        let DirectionRow(h, base, target) = *self;
+        let directed = Shown(direction::direction_of(h, base, target));
+        let Point { x, y, z } = base;
+        write!(f, "{} from {x} {y} {z}", Shown(h))?;
+        let Point { x, y, z } = target;
+        write!(f, " to {x} {y} {z}: {directed}")
+    }
+}
 
 const CIRCLE: Conic = Conic {
     a: 1,
@@ -61,115 +90,63 @@ const ACROSS: Direction = Direction { u: 1, v: 0 };
 
 const UP: Direction = Direction { u: 0, v: 1 };
 
-fn point_row(rt: &impl Print, h: Conic, base: Point, t: Direction) -> io::Result<()> {
-    print_conic(rt, h)?;
-    print!(rt; " from")?;
-    print_point(rt, base)?;
-    print!(rt; " along")?;
-    print_direction(rt, t)?;
-    let reached = direction::point_of(h, base, t);
-    match reached {
-        Reached::Point(p) => {
-            print!(rt; ": P")?;
-            print_point(rt, p)?;
-        }
-        Reached::Refused(refusal) => {
-            print_refusal(rt, refusal)?;
-        }
-    }
-    end_row(rt)
-}
+pub const STEPS: [PointRow; 10] = [
+    PointRow(CIRCLE, EAST, Direction { u: 1, v: -2 }),
+    PointRow(CIRCLE, EAST, ACROSS),
+    PointRow(CIRCLE, EAST, UP),
+    PointRow(CIRCLE, EAST, Direction { u: 10000, v: -9999 }),
+    PointRow(HYPERBOLA, UNIT, ACROSS),
+    PointRow(HYPERBOLA, UNIT, UP),
+    PointRow(HYPERBOLA, UNIT, Direction { u: 1, v: -1 }),
+    PointRow(PARABOLA, ORIGIN, UP),
+    PointRow(PARABOLA, ORIGIN, ACROSS),
+    PointRow(PARABOLA, ORIGIN, Direction { u: 2, v: -3 }),
+];
 
-fn direction_row(rt: &impl Print, h: Conic, base: Point, target: Point) -> io::Result<()> {
-    print_conic(rt, h)?;
-    print!(rt; " from")?;
-    print_point(rt, base)?;
-    print!(rt; " to")?;
-    print_point(rt, target)?;
-    let directed = direction::direction_of(h, base, target);
-    match directed {
-        Directed::Direction(t) => {
-            print!(rt; ": D")?;
-            print_direction(rt, t)?;
-        }
-        Directed::Refused(refusal) => {
-            print_refusal(rt, refusal)?;
-        }
-    }
-    end_row(rt)
-}
-
-pub fn step_rows(rt: &impl Print) -> io::Result<()> {
-    println!(rt; "direction to point")?;
-    point_row(rt, CIRCLE, EAST, Direction { u: 1, v: -2 })?;
-    point_row(rt, CIRCLE, EAST, ACROSS)?;
-    point_row(rt, CIRCLE, EAST, UP)?;
-    point_row(rt, CIRCLE, EAST, Direction { u: 10000, v: -9999 })?;
-    point_row(rt, HYPERBOLA, UNIT, ACROSS)?;
-    point_row(rt, HYPERBOLA, UNIT, UP)?;
-    point_row(rt, HYPERBOLA, UNIT, Direction { u: 1, v: -1 })?;
-    point_row(rt, PARABOLA, ORIGIN, UP)?;
-    point_row(rt, PARABOLA, ORIGIN, ACROSS)?;
-    point_row(rt, PARABOLA, ORIGIN, Direction { u: 2, v: -3 })
-}
-
-pub fn back_rows(rt: &impl Print) -> io::Result<()> {
-    println!(rt; "point to direction")?;
-    direction_row(rt, CIRCLE, EAST, Point { x: 3, y: 4, z: 5 })?;
-    direction_row(rt, CIRCLE, EAST, Point { x: -1, y: 0, z: 1 })?;
-    direction_row(rt, CIRCLE, EAST, EAST)?;
-    direction_row(rt, HYPERBOLA, UNIT, Point { x: 1, y: 0, z: 0 })?;
-    direction_row(rt, HYPERBOLA, UNIT, Point { x: 0, y: 1, z: 0 })?;
-    direction_row(rt, HYPERBOLA, UNIT, UNIT)?;
-    direction_row(rt, PARABOLA, ORIGIN, Point { x: 0, y: 1, z: 0 })?;
-    direction_row(rt, PARABOLA, ORIGIN, ORIGIN)?;
-    direction_row(rt, PARABOLA, ORIGIN, Point { x: -6, y: 9, z: 4 })
-}
+pub const BACK: [DirectionRow; 9] = [
+    DirectionRow(CIRCLE, EAST, Point { x: 3, y: 4, z: 5 }),
+    DirectionRow(CIRCLE, EAST, Point { x: -1, y: 0, z: 1 }),
+    DirectionRow(CIRCLE, EAST, EAST),
+    DirectionRow(HYPERBOLA, UNIT, Point { x: 1, y: 0, z: 0 }),
+    DirectionRow(HYPERBOLA, UNIT, Point { x: 0, y: 1, z: 0 }),
+    DirectionRow(HYPERBOLA, UNIT, UNIT),
+    DirectionRow(PARABOLA, ORIGIN, Point { x: 0, y: 1, z: 0 }),
+    DirectionRow(PARABOLA, ORIGIN, ORIGIN),
+    DirectionRow(PARABOLA, ORIGIN, Point { x: -6, y: 9, z: 4 }),
+];
 
 // In each of the first four rows two refusals apply, next to each other in the order.
-pub fn refused_steps(rt: &impl Print) -> io::Result<()> {
-    println!(rt; "refusals of direction to point")?;
-    point_row(rt, OUT_OF_RANGE, EAST, ACROSS)?;
-    point_row(rt, LINES, Point { x: 2, y: 2, z: 2 }, ACROSS)?;
-    point_row(rt, CIRCLE, Point { x: 2, y: 2, z: 2 }, ACROSS)?;
-    point_row(rt, CIRCLE, UNIT, Direction { u: 0, v: 0 })?;
-    point_row(rt, CIRCLE, EAST, Direction { u: 0, v: 0 })?;
-    point_row(rt, CIRCLE, EAST, Direction { u: 10001, v: 0 })?;
-    point_row(
-        rt,
-        CIRCLE,
-        EAST,
-        Direction {
-            u: 0,
-            v: -9223372036854775808,
-        },
-    )?;
-    point_row(
-        rt,
+pub const REFUSED_STEPS: [PointRow; 10] = [
+    PointRow(OUT_OF_RANGE, EAST, ACROSS),
+    PointRow(LINES, Point { x: 2, y: 2, z: 2 }, ACROSS),
+    PointRow(CIRCLE, Point { x: 2, y: 2, z: 2 }, ACROSS),
+    PointRow(CIRCLE, UNIT, Direction { u: 0, v: 0 }),
+    PointRow(CIRCLE, EAST, Direction { u: 0, v: 0 }),
+    PointRow(CIRCLE, EAST, Direction { u: 10001, v: 0 }),
+    PointRow(CIRCLE, EAST, Direction { u: 0, v: i64::MIN }),
+    PointRow(
         CIRCLE,
         Point {
-            x: -9223372036854775808,
+            x: i64::MIN,
             y: 0,
             z: 1,
         },
         ACROSS,
-    )?;
-    point_row(rt, CIRCLE, Point { x: -1, y: 0, z: -1 }, ACROSS)?;
-    point_row(rt, HYPERBOLA, Point { x: 1, y: 0, z: 0 }, ACROSS)
-}
+    ),
+    PointRow(CIRCLE, Point { x: -1, y: 0, z: -1 }, ACROSS),
+    PointRow(HYPERBOLA, Point { x: 1, y: 0, z: 0 }, ACROSS),
+];
 
 // In each of the first five rows two refusals apply, next to each other in the order.
-pub fn refused_back(rt: &impl Print) -> io::Result<()> {
-    println!(rt; "refusals of point to direction")?;
-    direction_row(rt, OUT_OF_RANGE, EAST, EAST)?;
-    direction_row(rt, LINES, Point { x: 2, y: 2, z: 2 }, EAST)?;
-    direction_row(rt, CIRCLE, Point { x: 2, y: 2, z: 2 }, EAST)?;
-    direction_row(rt, CIRCLE, UNIT, Point { x: 0, y: 0, z: 0 })?;
-    direction_row(rt, CIRCLE, EAST, Point { x: 2, y: 2, z: 2 })?;
-    direction_row(rt, CIRCLE, EAST, UNIT)?;
-    direction_row(rt, CIRCLE, EAST, Point { x: 0, y: 0, z: 0 })?;
-    direction_row(
-        rt,
+pub const REFUSED_BACK: [DirectionRow; 10] = [
+    DirectionRow(OUT_OF_RANGE, EAST, EAST),
+    DirectionRow(LINES, Point { x: 2, y: 2, z: 2 }, EAST),
+    DirectionRow(CIRCLE, Point { x: 2, y: 2, z: 2 }, EAST),
+    DirectionRow(CIRCLE, UNIT, Point::ZERO),
+    DirectionRow(CIRCLE, EAST, Point { x: 2, y: 2, z: 2 }),
+    DirectionRow(CIRCLE, EAST, UNIT),
+    DirectionRow(CIRCLE, EAST, Point::ZERO),
+    DirectionRow(
         CIRCLE,
         EAST,
         Point {
@@ -177,19 +154,18 @@ pub fn refused_back(rt: &impl Print) -> io::Result<()> {
             y: 0,
             z: 1,
         },
-    )?;
-    direction_row(
-        rt,
+    ),
+    DirectionRow(
         CIRCLE,
         EAST,
         Point {
             x: 0,
-            y: -9223372036854775808,
+            y: i64::MIN,
             z: 1,
         },
-    )?;
-    direction_row(rt, CIRCLE, EAST, Point { x: 0, y: -1, z: 0 })
-}
+    ),
+    DirectionRow(CIRCLE, EAST, Point { x: 0, y: -1, z: 0 }),
+];
 
 // There and back.
 fn round_trip(rt: &impl Print, u: i64, v: i64) -> io::Result<()> {
@@ -203,9 +179,9 @@ fn round_trip(rt: &impl Print, u: i64, v: i64) -> io::Result<()> {
     };
     let base = Point { x: -4, y: 5, z: 3 };
     let t = Direction { u, v };
-    point_row(rt, h, base, t)?;
-    if let Reached::Point(p) = direction::point_of(h, base, t) {
-        direction_row(rt, h, base, p)?;
+    println!(rt; "{}", PointRow(h, base, t))?;
+    if let Ok(p) = direction::point_of(h, base, t) {
+        println!(rt; "{}", DirectionRow(h, base, p))?;
     }
     Ok(())
 }

@@ -4,6 +4,7 @@ use mathlib.Core.Bool.{Bool, true, false, cond}
 use mathlib.Core.Path.{◌≡◌, refl, sym, ap, ◌∙◌}
 use Prim.Native.Nat.{ℕ}
 use native.Mathlib.Omega.{arith}
+use Rattle.std.specs.Prelude.{Result, Ok, Err}
 use Rattle.point.specs.Legal.{is_base, is_direction}
 use Rattle.point.specs.Paper.{Verdict, point, none_by_sign, none_by_prime, refusal, is_zero}
 use Rattle.point.specs.declared.paper.Refusal.{Refusal}
@@ -14,36 +15,36 @@ use Rattle.conic.specs.Base.{in_range, from_base}
 use Rattle.conic.specs.Form.{G, Δ}
 use Rattle.conic.specs.declared.conic.Conic.{Conic}
 use Rattle.direction.specs.Direction.{PointPromise, DirectionPromise, Bearing, direction, no_direction, reached, directed, point_from, point_of}
-use Rattle.direction.specs.declared.Reached.{Reached}
-use Rattle.direction.specs.declared.Directed.{Directed}
 
 -- ---- answers
 
 -- a none is no answer of this step
-abbrev to_reached : Verdict → Reached
-to_reached (point p) = Reached.Point p
-to_reached none_by_sign = Reached.Refused Refusal.Range
-to_reached (none_by_prime l) = Reached.Refused Refusal.Range
-to_reached (refusal n) = Reached.Refused (numbered n)
+abbrev to_reached : Verdict → Result Point Refusal
+to_reached (point p) = Ok p
+to_reached none_by_sign = Err Refusal.Range
+to_reached (none_by_prime l) = Err Refusal.Range
+to_reached (refusal n) = Err (numbered n)
 
-reached_back : (r : Reached) → to_reached (reached r) ≡ r
-reached_back (Reached.Point p) = refl
-reached_back (Reached.Refused r) = ap Reached.Refused (numbered_number r)
+reached_back : (r : Result Point Refusal) → to_reached (reached r) ≡ r
+reached_back (Ok p) = refl
+reached_back (Err r) = ap Err (numbered_number r)
 
-abbrev to_directed : Bearing → Directed
-to_directed (direction t) = Directed.Direction t
-to_directed (no_direction n) = Directed.Refused (numbered n)
+abbrev to_directed : Bearing → Result Direction Refusal
+to_directed (direction t) = Ok t
+to_directed (no_direction n) = Err (numbered n)
 
-directed_back : (r : Directed) → to_directed (directed r) ≡ r
-directed_back (Directed.Direction t) = refl
-directed_back (Directed.Refused r) = ap Directed.Refused (numbered_number r)
+directed_back : (r : Result Direction Refusal) → to_directed (directed r) ≡ r
+directed_back (Ok t) = refl
+directed_back (Err r) = ap Err (numbered_number r)
 
 -- ---- two answers that a promise allows are equal
 
-pub point_determined : {h : Conic} {p : Point} {t : Direction} {r r' : Reached} → PointPromise h p t r → PointPromise h p t r' → r ≡ r'
+pub point_determined :
+    {h : Conic} {p : Point} {t : Direction} {r r' : Result Point Refusal} → PointPromise h p t r → PointPromise h p t r' → r ≡ r'
 point_determined {r = r} {r' = r'} a b = told_apart reached to_reached reached_back r r' (a.as_defined ∙ sym b.as_defined)
 
-pub direction_determined : {h : Conic} {p q : Point} {r r' : Directed} → DirectionPromise h p q r → DirectionPromise h p q r' → r ≡ r'
+pub direction_determined :
+    {h : Conic} {p q : Point} {r r' : Result Direction Refusal} → DirectionPromise h p q r → DirectionPromise h p q r' → r ≡ r'
 direction_determined {r = r} {r' = r'} a b = told_apart directed to_directed directed_back r r' (a.as_defined ∙ sym b.as_defined)
 
 -- ---- a direction leads to a point or is refused

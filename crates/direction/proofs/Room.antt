@@ -1,8 +1,9 @@
 -- The entries' tests leave room for the arithmetic behind them: a direction in limit is small enough for the step, and the direction
 -- to a target fits 64 bits before the division. Assumes nothing.
-use mathlib.Core.Path.{◌≡◌}
-use mathlib.Core.Bool.{true, not, ◌&&◌, cond, and-eq-true_iff}
+use lib.Dec.{T}
+use mathlib.Core.Bool.{not, ◌&&◌, cond, and-eq-true_iff}
 use Prim.Native.Nat.{zero-le}
+use Rattle.number.proofs.Least.{true_of_T}
 use Rattle.whole.proofs.Signed.{sizes, bounds}
 use Rattle.point.specs.Legal.{is_direction}
 use Rattle.point.specs.Normal.{largest, at_infinity}
@@ -12,22 +13,20 @@ use Rattle.point.specs.declared.Point.{Point}
 use Rattle.point.specs.declared.Direction.{Direction}
 use Rattle.point.proofs.Cases.{cond_cases}
 use Rattle.point.proofs.Limits.{direction_in_limit_lem}
-use Rattle.conic.specs.Base.{LegalBase}
 use Rattle.conic.specs.Sizes.{ConicAt, ConicAlong}
 use Rattle.conic.specs.declared.conic.Conic.{Conic}
 use Rattle.conic.proofs.Bounds.{formSizes}
-use Rattle.conic.proofs.Legal.{at_base}
 use Rattle.direction.specs.Direction.{is_same, tangent, chord}
 
 -- ---- room for the polynomials
 
-pub along_direction : (h : Conic) (p : Point) (t : Direction) → LegalBase h p → is_direction t ≡ true → ConicAlong h p (at_infinity t)
+pub along_direction : (h : Conic) (p : Point) (t : Direction) → ConicAt h p → T (is_direction t) → ConicAlong h p (at_infinity t)
 unfolding is_direction
-along_direction h p t l e =
+along_direction h p t within e =
     record {
-      conic = (at_base h p l).conic;
-      from = (at_base h p l).point;
-      along = direction_in_limit_lem t ((and-eq-true_iff (not (is_zero t.u && is_zero t.v)) (direction_in_limit t)).0 e).1;
+      conic = within.conic;
+      from = within.point;
+      along = direction_in_limit_lem t ((and-eq-true_iff (not (is_zero t.u && is_zero t.v)) (direction_in_limit t)).0 (true_of_T _ e)).1;
     }
 
 -- ---- the direction to a target, before the division

@@ -3,6 +3,8 @@ use mathlib.Core.Path.{◌≡◌, ap, ap₂, ◌∙◌}
 use mathlib.Core.Logic.{◌≢◌, ◌↔◌}
 use mathlib.Core.Bool.{true, false, ◌&&◌, and-eq-true_iff}
 use lib.IntN.{ℤ, ◌-ℤ◌, +ℤ_invr}
+use Rattle.std.specs.Ordering.{int_eq}
+use Rattle.std.proofs.lemmas.Bool.Decides.{same_from_decides, Decides-like, Decides-and, Decides-int_eq}
 use Rattle.whole.proofs.Laws.{equal_of_difference}
 use Rattle.number.proofs.Least.{true_of_T, false_of_not_true}
 use Rattle.point.specs.Paper.{is_zero}
@@ -35,6 +37,14 @@ is_same_iff {p} {q} = (
 
 pub is_same_not : {p q : Point} → p ≢ q → is_same p q ≡ false
 is_same_not f = false_of_not_true λ e. f (is_same_iff.0 e)
+
+-- what `==` tests, number by number
+pub same_test : (p q : Point) → int_eq p.x q.x && (int_eq p.y q.y && int_eq p.z q.z) ≡ is_same p q
+same_test p q =
+    same_from_decides _ _
+    (Decides-like _ (λ e. same_point e.0 e.1.0 e.1.1) (λ e. (ap (λ v. v.x) e, (ap (λ v. v.y) e, ap (λ v. v.z) e)))
+    (Decides-and _ _ (Decides-int_eq p.x q.x) (Decides-and _ _ (Decides-int_eq p.y q.y) (Decides-int_eq p.z q.z))))
+    is_same_iff
 
 -- a legal base is a base of the steps
 pub legal_is_based : {h : Conic} {p : Point} → LegalBase h p → Based h p

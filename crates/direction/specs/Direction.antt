@@ -1,16 +1,15 @@
 -- Directions from a base point: the step from a direction to a point and the step from a point to a direction, over all whole
 -- numbers; and the two entries, with their refusals in the paper's order. Assumes nothing.
-use Rattle.std.specs.Prelude.{Bool, ◌&&◌, cond, ℕ, neg_ℤ, ◌-ℤ◌, ◌*ℤ◌, ◌≡◌}
+use Rattle.std.specs.Prelude.{Bool, ◌&&◌, cond, ℕ, neg_ℤ, ◌-ℤ◌, ◌*ℤ◌, ◌≡◌, Result, Ok, Err}
 use Rattle.point.specs.Normal.{normal, normal_direction, at_infinity}
 use Rattle.point.specs.Paper.{Verdict, point, refusal, is_zero, number}
 use Rattle.point.specs.Legal.{is_target, is_direction}
+use Rattle.point.specs.declared.paper.Refusal.{Refusal}
 use Rattle.point.specs.declared.Point.{Point}
 use Rattle.point.specs.declared.Direction.{Direction}
 use Rattle.conic.specs.Form.{G, Gx, Gy, drawn}
 use Rattle.conic.specs.Base.{from_base}
 use Rattle.conic.specs.declared.conic.Conic.{Conic}
-use Rattle.direction.specs.declared.Reached.{Reached}
-use Rattle.direction.specs.declared.Directed.{Directed}
 
 -- Answers
 
@@ -19,13 +18,13 @@ pub data Bearing : Type 0 where
   direction : Direction → Bearing
   no_direction : ℕ → Bearing
 
-abbrev pub reached : Reached → Verdict
-reached (Reached.Point p) = point p
-reached (Reached.Refused r) = refusal (number r)
+abbrev pub reached : Result Point Refusal → Verdict
+reached (Ok p) = point p
+reached (Err r) = refusal (number r)
 
-abbrev pub directed : Directed → Bearing
-directed (Directed.Direction t) = direction t
-directed (Directed.Refused r) = no_direction (number r)
+abbrev pub directed : Result Direction Refusal → Bearing
+directed (Ok t) = direction t
+directed (Err r) = no_direction (number r)
 
 -- The two steps
 
@@ -59,9 +58,9 @@ direction_of h p q =
     (cond (is_target q) (cond (is_zero (G h q)) (direction (direction_to h p q)) (no_direction 9)) (no_direction 8))
 
 -- the promise of direction to point
-pub record PointPromise (h : Conic) (p : Point) (t : Direction) (r : Reached) : Type 0 where
+pub record PointPromise (h : Conic) (p : Point) (t : Direction) (r : Result Point Refusal) : Type 0 where
   pub as_defined : reached r ≡ point_of h p t
 
 -- the promise of point to direction
-pub record DirectionPromise (h : Conic) (p q : Point) (r : Directed) : Type 0 where
+pub record DirectionPromise (h : Conic) (p q : Point) (r : Result Direction Refusal) : Type 0 where
   pub as_defined : directed r ≡ direction_of h p q

@@ -1,50 +1,25 @@
 // Directions from a base point: the point that a direction leads to, and the direction to a point.
 #![tactic(auto)]
 
-ghost use Rattle.std.specs.Prelude.{◌≡◌, cond};
-ghost use Rattle.point.specs.Normal.{at_infinity};
-ghost use Rattle.point.specs.Paper.{point_limit};
+ghost use Rattle.std.specs.Prelude.{◌≡◌, T, IfOk, IfErr};
+ghost use Rattle.point.specs.Legal.{is_direction};
+ghost use Rattle.point.specs.Paper.{number, point_limit};
 ghost use Rattle.point.specs.Sizes.{PointWithin};
-ghost use Rattle.conic.specs.Sizes.{ConicAt, ConicAlong};
-ghost use Rattle.direction.specs.Direction.{is_same, tangent, chord, point_from, direction_to, PointPromise, DirectionPromise};
+ghost use Rattle.conic.specs.Base.{legal, refused, judged_of};
+ghost use Rattle.conic.specs.Sizes.{ConicAt};
+ghost use Rattle.direction.specs.Direction.{tangent, chord, point_from, direction_to, PointPromise, DirectionPromise};
 
-use conic::base::{Judged, judge};
+use conic::base::judge;
 use conic::conic::Conic;
 use point::paper::Refusal;
-use point::{Direction, Point, size};
+use point::{Direction, Point};
 
-// The point that a base's direction leads to.
+// A legal base on its conic, so both are within the paper's limits.
 #[derive(Clone, Copy)]
-pub enum Reached {
-    Point(Point),
-    Refused(Refusal),
-}
-
-// The direction from a base to a target.
-#[derive(Clone, Copy)]
-pub enum Directed {
-    Direction(Direction),
-    Refused(Refusal),
-}
-
-// Three differences and three comparisons.
-fn is_same(p: Point, q: Point) -> bool
-    requires { PointWithin point_limit p × PointWithin point_limit q }
-    ensures { result ≡ is_same p q }
-{
-    let Point { x, y, z } = q;
-    size::is_zero(p.x - x) & size::is_zero(p.y - y) & size::is_zero(p.z - z)
-}
-
-// Two derivatives.
-fn tangent(h: Conic, p: Point) -> Direction
-    requires { ConicAt h p }
-    ensures { result ≡ tangent h p }
-{
-    Direction {
-        u: h.derivative_by_y(p),
-        v: -h.derivative_by_x(p),
-    }
+struct Base {
+    h: Conic,
+    p: Point,
+    ghost within: { ConicAt h p },
 }
 
 // Four products and two differences.
@@ -59,69 +34,77 @@ fn chord(p: Point, q: Point) -> Direction
     }
 }
 
-// The chord's direction, or at the base itself the tangent's: three differences, and four products or two derivatives.
-fn toward(h: Conic, p: Point, q: Point) -> Direction
-    requires { ConicAt h p × PointWithin point_limit q }
-    ensures { result ≡ cond (is_same q p) (tangent h p) (chord p q) }
-{
-    if is_same(q, p) {
-        tangent(h, p)
-    } else {
-        chord(p, q)
+impl Base {
+    // What judging costs.
+    fn judged(h: Conic, p: Point) -> Result<Base, Refusal>
+        ensures ok { IfOk result (λ base. (base.h ≡ h) × (base.p ≡ p) × (legal ≡ judged_of h p)) }
+        ensures err { IfErr result (λ r. refused (number r) ≡ judged_of h p) }
+    {
+        judge(h, p)?;
+        Ok(Base { h, p })
     }
-}
 
-// The direction toward the target, and two greatest common divisors.
-fn direction_to(h: Conic, p: Point, q: Point) -> Direction
-    requires { ConicAt h p × PointWithin point_limit q }
-    ensures { result ≡ direction_to h p q }
-{
-    let t = toward(h, p, q);
-    Direction::normal(t.u, t.v)
-}
+    // Two derivatives.
+    fn tangent(self) -> Direction
+        ensures { result ≡ tangent self.h self.p }
+    {
+        Direction {
+            u: self.h.derivative_by_y(self.p),
+            v: -self.h.derivative_by_x(self.p),
+        }
+    }
 
-// 49 steps and two greatest common divisors.
-fn point_from(h: Conic, p: Point, t: Direction) -> Point
-    requires { ConicAlong h p (at_infinity t) }
-    ensures { result ≡ point_from h p t }
-{
-    h.other_point(
-        p,
-        Point {
+    // The chord's direction, or at the base itself the tangent's, in normal form: three comparisons, four products or
+    // two derivatives, and two greatest common divisors.
+    fn direction_to(self, q: Point) -> Direction
+        requires { PointWithin point_limit q }
+        ensures { result ≡ direction_to self.h self.p q }
+    {
+        let t = if q == self.p {
+            self.tangent()
+        } else {
+            chord(self.p, q)
+        };
+        Direction::normal(t.u, t.v)
+    }
+
+    // 49 steps and two greatest common divisors.
+    fn point_from(self, t: Direction) -> Point
+        requires { T (is_direction t) }
+        ensures { result ≡ point_from self.h self.p t }
+    {
+        let along = Point {
             x: t.u,
             y: t.v,
             z: 0,
-        },
-    )
+        };
+        self.h.other_point(self.p, along)
+    }
 }
 
 // Direction to point, of any numbers: some hundred steps and four greatest common divisors.
-pub fn point_of(h: Conic, base: Point, t: Direction) -> Reached
+pub fn point_of(h: Conic, base: Point, t: Direction) -> Result<Point, Refusal>
     ensures { PointPromise h base t result }
 {
-    if let Judged::Refused(refusal) = judge(h, base) {
-        return Reached::Refused(refusal);
-    }
+    let base = Base::judged(h, base)?;
     if t.is_direction() {
-        Reached::Point(point_from(h, base, t))
+        Ok(base.point_from(t))
     } else {
-        Reached::Refused(Refusal::Direction)
+        Err(Refusal::Direction)
     }
 }
 
 // Point to direction, of any numbers: some hundred steps and six greatest common divisors.
-pub fn direction_of(h: Conic, base: Point, target: Point) -> Directed
+pub fn direction_of(h: Conic, base: Point, target: Point) -> Result<Direction, Refusal>
     ensures { DirectionPromise h base target result }
 {
-    if let Judged::Refused(refusal) = judge(h, base) {
-        return Directed::Refused(refusal);
-    }
+    let base = Base::judged(h, base)?;
     if !target.is_target() {
-        return Directed::Refused(Refusal::Target);
+        return Err(Refusal::Target);
     }
-    if size::is_zero(h.at(target)) {
-        Directed::Direction(direction_to(h, base, target))
+    if h.at(target) == 0 {
+        Ok(base.direction_to(target))
     } else {
-        Directed::Refused(Refusal::TargetOff)
+        Err(Refusal::TargetOff)
     }
 }

@@ -10,6 +10,7 @@ use borrow.Author.Tests.{ltb-true, ltb-false, lt-ltb, le-ltb}
 use lib.Dec.{ltb}
 use lib.IntN.{ℤ, pos}
 use lib.Signed.{lt_z, ◌<ℤ◌}
+use Rattle.std.specs.Prelude.{Result, Ok, Err}
 use Rattle.number.specs.Prime as Number
 use Rattle.number.proofs.Least.{true_of_T, T-of-true, true_or_false, not_true_of_false, false_of_not_true}
 use Rattle.number.proofs.Squarefree.{squarefree_not_zero}
@@ -18,8 +19,8 @@ use Rattle.legendre.specs.Theorems.{Legendre, NoneBySign, Holzer}
 use Rattle.legendre.specs.Outcome.{is_one_sign, prime_limit, least_failing, chosen, outcome_of}
 use Rattle.legendre.specs.Answer.{SignExactly, SolutionExactly, Chosen, SolutionIsChosen, LeastFailing, PrimeIsLeastFailing, TwoNeverFails}
 use Rattle.legendre.specs.declared.outcome.Triple.{Triple}
-use Rattle.legendre.specs.declared.outcome.Outcome.{Outcome}
-use Rattle.legendre.specs.declared.outcome.Outcome.TheVariants.{Sign, Prime, Solution}
+use Rattle.legendre.specs.declared.outcome.Reason.{Reason}
+use Rattle.legendre.specs.declared.outcome.Reason.TheVariants.{Sign, Prime}
 use Rattle.legendre.proofs.Tests.{all_three_iff, either_iff}
 use Rattle.legendre.proofs.Sign.{none_by_sign}
 use Rattle.legendre.proofs.Legendre.{legendre}
@@ -53,15 +54,15 @@ one_sign_iff p g q = (
 
 -- ---- the three answers
 
-pub outcome_sign : {p g q : ℤ} → OneSign p g q → outcome_of p g q ≡ Sign
+pub outcome_sign : {p g q : ℤ} → OneSign p g q → outcome_of p g q ≡ Err Sign
 unfolding outcome_of
 outcome_sign {p} {g} {q} signs = rw ((one_sign_iff p g q).1 signs)
 
-outcome_least : {p g q : ℤ} → ¬ OneSign p g q → least_failing p g q < prime_limit p g q → outcome_of p g q ≡ Prime (least_failing p g q)
+outcome_least : {p g q : ℤ} → ¬ OneSign p g q → least_failing p g q < prime_limit p g q → outcome_of p g q ≡ Err (Prime (least_failing p g q))
 unfolding outcome_of
 outcome_least {p} {g} {q} mixed found = rw (false_of_not_true (λ e. mixed ((one_sign_iff p g q).0 e)), lt-ltb (least_failing p g q) (prime_limit p g q) found)
 
-outcome_chosen : {p g q : ℤ} → ¬ OneSign p g q → prime_limit p g q ≤ least_failing p g q → outcome_of p g q ≡ Solution (chosen p g q)
+outcome_chosen : {p g q : ℤ} → ¬ OneSign p g q → prime_limit p g q ≤ least_failing p g q → outcome_of p g q ≡ Ok (chosen p g q)
 unfolding outcome_of
 outcome_chosen {p} {g} {q} mixed none = rw (false_of_not_true (λ e. mixed ((one_sign_iff p g q).0 e)), le-ltb (least_failing p g q) (prime_limit p g q) none)
 
@@ -80,13 +81,13 @@ way p g q = ⊎_elim (λ e. by_sign ((one_sign_iff p g q).0 e)) (λ e. other (λ
 
 -- ---- one answer is not another
 
-not_sign_and_prime : {o : Outcome} {l : ℕ} → o ≡ Sign → o ≡ Prime l → ⊥
+not_sign_and_prime : {o : Result Triple Reason} {l : ℕ} → o ≡ Err Sign → o ≡ Err (Prime l) → ⊥
 not_sign_and_prime e f = let z : ◌≡◌ {A = ℕ} 0 1 = cc in omega arith
 
-not_sign_and_solution : {o : Outcome} {t : Triple} → o ≡ Sign → o ≡ Solution t → ⊥
+not_sign_and_solution : {o : Result Triple Reason} {t : Triple} → o ≡ Err Sign → o ≡ Ok t → ⊥
 not_sign_and_solution e f = let z : ◌≡◌ {A = ℕ} 0 1 = cc in omega arith
 
-not_prime_and_solution : {o : Outcome} {l : ℕ} {t : Triple} → o ≡ Prime l → o ≡ Solution t → ⊥
+not_prime_and_solution : {o : Result Triple Reason} {l : ℕ} {t : Triple} → o ≡ Err (Prime l) → o ≡ Ok t → ⊥
 not_prime_and_solution e f = let z : ◌≡◌ {A = ℕ} 0 1 = cc in omega arith
 
 -- ---- by sign
@@ -95,7 +96,7 @@ pub sign_exactly : SignExactly
 unfolding SignExactly
 sign_exactly p g q = (go (way p g q), outcome_sign)
   where
-    go : Way p g q → outcome_of p g q ≡ Sign → OneSign p g q
+    go : Way p g q → outcome_of p g q ≡ Err Sign → OneSign p g q
     go (by_sign signs) e = signs
     go (by_prime mixed found) e = absurd (not_sign_and_prime e (outcome_least mixed found))
     go (by_solution mixed none) e = absurd (not_sign_and_solution e (outcome_chosen mixed none))
@@ -106,7 +107,7 @@ pub prime_is_least_failing : PrimeIsLeastFailing
 unfolding PrimeIsLeastFailing
 prime_is_least_failing p g q l e = go (way p g q)
   where
-    same : {m : ℕ} → outcome_of p g q ≡ Prime m → m ≡ l
+    same : {m : ℕ} → outcome_of p g q ≡ Err (Prime m) → m ≡ l
     same f = cc
 
     go : Way p g q → LeastFailing p g q l
@@ -124,7 +125,7 @@ solution_in_box {p} {g} {q} levelled mixed holds = holzer p g q levelled ((legen
 solvable : {p g q : ℤ} {x y w : ℕ} → BoxSolution p g q x y w → Solvable p g q
 solvable {x} {y} {w} h = record { x = pos x; y = pos y; w = pos w; solution = h.solution }
 
-outcome_solvable : {p g q : ℤ} → Levelled p g q → Solvable p g q → outcome_of p g q ≡ Solution (chosen p g q)
+outcome_solvable : {p g q : ℤ} → Levelled p g q → Solvable p g q → outcome_of p g q ≡ Ok (chosen p g q)
 unfolding Legendre NoneBySign
 outcome_solvable {p} {g} {q} levelled s = outcome_chosen mixed (omega (arith, none))
   where
@@ -142,7 +143,7 @@ pub solution_is_chosen : SolutionIsChosen
 unfolding SolutionIsChosen
 solution_is_chosen p g q t levelled e = go (way p g q)
   where
-    same : {s : Triple} → outcome_of p g q ≡ Solution s → s ≡ t
+    same : {s : Triple} → outcome_of p g q ≡ Ok s → s ≡ t
     same f = cc
 
     go : Way p g q → Chosen p g q t

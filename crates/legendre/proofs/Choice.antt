@@ -25,7 +25,7 @@ use Rattle.legendre.proofs.Tests.{all_three_iff, not_iff}
 
 -- ---- the box and its tests
 
-within_side_iff : (a b : ℤ) {n : ℕ} → (n < side a b) ↔ (n * n ≤ nat_abs (a *ℤ b))
+pub within_side_iff : (a b : ℤ) {n : ℕ} → (n < side a b) ↔ (n * n ≤ nat_abs (a *ℤ b))
 unfolding side
 within_side_iff a b {n} = (
   λ h. le_trans (square-≤ (omega arith)) (root_is (nat_abs (a *ℤ b))).square_at_most,
@@ -126,10 +126,6 @@ chosen_by_walk {p} {g} {q} x y w g≢0 here no-smaller-w no-smaller-x = record {
         (λ e. inr (⊎_elim (λ h. inl (e, h)) (λ h. inr (e, h.0, h.1)) (compare_x a b (subst (BoxSolution p g q a b) (sym e) there))))
         inl
         (eq-or-lt_of_le (le_of_not_above (λ h. no-smaller-w a b c h there)))
-
--- a walk that has found nothing below w, where the box holds a solution, is still in the box
-pub walk_in_box : {p g q : ℤ} {w : ℕ} → SolvableInBox p g q → ((a b c : ℕ) → c < w → ¬ BoxSolution p g q a b c) → w * w ≤ nat_abs (p *ℤ g)
-walk_in_box {w} found none = le_trans (square-≤ (le_of_not_above (λ h. none found.x found.y found.w h found.solution))) found.solution.w_within
 
 -- ---- the searches find it
 

@@ -3,13 +3,15 @@
 -- what is left, that is 1 or a prime. Assumes nothing.
 use mathlib.Core.Path.{◌≡◌, sym, ap, subst, ◌∙◌}
 use mathlib.Core.Logic.{◌⊎◌, inl, inr, ⊎_elim, ◌↔◌, ◌≢◌}
-use mathlib.Core.Bool.{true, false, ◌&&◌, not, and-eq-true_iff}
+use mathlib.Core.Bool.{Bool, true, false, ◌&&◌, not, and-eq-true_iff}
 use Prim.Native.Nat.{ℕ, suc, ◌+◌, ◌*◌, ◌/◌, ◌%◌, ◌^◌, ◌∣◌, ◌≤◌, ◌<◌}
 use native.Mathlib.Nat.{le_refl, le_antisymm, eq-or-lt_of_le, mul-one, mul-le-mul, le_of_dvd, pos_of_dvd_of_pos, dvd_refl, dvd_trans, dvd_of_mod-eq-zero, mod-eq-zero_of_dvd}
 use native.Mathlib.Omega.{arith}
 use borrow.Author.Tests.{not-true, ltb-true, ltb-false}
 use lib.Dec.{ltb}
 use lib.IntN.{ℤ}
+use Rattle.std.specs.Bool.{then_some}
+use Rattle.std.specs.Prelude.{Some, None}
 use Rattle.number.specs.Divides.{divides}
 use Rattle.number.specs.Prime.{Prime, is_prime}
 use Rattle.number.specs.Residue.{is_square_modulo}
@@ -19,7 +21,6 @@ use Rattle.number.proofs.Prime.{is_prime_iff, one_or_more, prime_not_one, prime_
 use Rattle.number.proofs.Square.{order_of_squares}
 use Rattle.number.proofs.TrialDivision.{NoDivisorBelow, at_least, fewer_divisors}
 use Rattle.legendre.specs.Search.{least_below, fails}
-use Rattle.legendre.specs.declared.least.Least.TheVariants.{At, Nothing}
 use Rattle.legendre.proofs.Search.{Bounded, finds_equals}
 
 -- ---- the test
@@ -62,32 +63,22 @@ pub record Trial (size : ℕ) (number : ℤ) (rest divisor : ℕ) : Type 0 where
   pub tried : NoDivisorBelow divisor rest
   pub passed : (l : ℕ) → Prime l → l ∣ size → (l ∣ rest) ⊎ (is_square_modulo l number ≡ true)
 
-pub trial_start : (size : ℕ) (number : ℤ) → 0 < size → Trial size number size 2
-trial_start size number positive = record {
-  positive = positive;
-  part = dvd_refl size;
-  from_two = le_refl 2;
-  divisor_bound = omega arith;
-  tried = record { none = λ k two below h. omega arith };
-  passed = λ l p h. inl h;
-}
-
 module _ {size : ℕ} {number : ℤ} {rest divisor : ℕ} (t : Trial size number rest divisor) (size_positive : 0 < size) where
   pub rest_at_most : rest ≤ size
   rest_at_most = le_of_dvd size_positive t.part
 
   -- a prime of what is left, below its other primes, that fails
-  first_failing : (l : ℕ) → Prime l → l ∣ rest → ((k : ℕ) → Prime k → k ∣ rest → l ≤ k) → is_square_modulo l number ≡ false → At l ≡ least_below (fails size number) (suc size)
+  first_failing : (l : ℕ) → Prime l → l ∣ rest → ((k : ℕ) → Prime k → k ∣ rest → l ≤ k) → is_square_modulo l number ≡ false → Some l ≡ least_below (fails size number) (suc size)
   first_failing l prime h first no_square =
-      finds_equals (At l) (fails_bounded size number size_positive)
+      finds_equals (Some l) (fails_bounded size number size_positive)
       ((fails_iff size number l).1 (record { divisor = dvd_trans l h t.part; no_square = no_square; prime = prime }), λ i below. false_of_not_true (λ e. none i below ((fails_iff size number i).0 e)))
     where
       none : (i : ℕ) → i < l → Fails size number i → ⊥
       none i below f = ⊎_elim (λ d. omega (arith, first i f.prime d)) (not_true_of_false f.no_square) (t.passed i f.prime f.divisor)
 
-  none_failing : ((l : ℕ) → Prime l → l ∣ rest → is_square_modulo l number ≡ true) → Nothing ≡ least_below (fails size number) (suc size)
+  none_failing : ((l : ℕ) → Prime l → l ∣ rest → is_square_modulo l number ≡ true) → None ≡ least_below (fails size number) (suc size)
   none_failing holds =
-      finds_equals Nothing (fails_bounded size number size_positive) (λ i. false_of_not_true (λ e. none i ((fails_iff size number i).0 e)))
+      finds_equals None (fails_bounded size number size_positive) (λ i. false_of_not_true (λ e. none i ((fails_iff size number i).0 e)))
     where
       none : (i : ℕ) → Fails size number i → ⊥
       none i f = not_true_of_false f.no_square (⊎_elim (holds i f.prime) (λ e. e) (t.passed i f.prime f.divisor))
@@ -106,7 +97,7 @@ module _ {size : ℕ} {number : ℤ} {rest divisor : ℕ} (t : Trial size number
         divisor_positive : 0 < divisor
         divisor_positive = omega arith
 
-    pub divisor_fails : is_square_modulo divisor number ≡ false → At divisor ≡ least_below (fails size number) (suc size)
+    pub divisor_fails : is_square_modulo divisor number ≡ false → Some divisor ≡ least_below (fails size number) (suc size)
     divisor_fails = first_failing divisor divisor_prime divides_rest (λ k p h. at_least k t.tried p.at_least_two h)
 
     pub trial_taken : is_square_modulo divisor number ≡ true → Trial size number (rest / divisor) divisor
@@ -156,7 +147,7 @@ module _ {size : ℕ} {number : ℤ} {rest divisor : ℕ} (t : Trial size number
           (true_or_false (ltb k divisor))
 
   -- ---- its square is above what is left
-  pub none_left : rest ≡ 1 → Nothing ≡ least_below (fails size number) (suc size)
+  pub none_left : rest ≡ 1 → None ≡ least_below (fails size number) (suc size)
   none_left one = none_failing (λ l p h. absurd (omega (arith, le_of_dvd t.positive h, p.at_least_two)))
 
   module _ (above : rest < divisor * divisor) (other : rest ≢ 1) where
@@ -179,8 +170,12 @@ module _ {size : ℕ} {number : ℤ} {rest divisor : ℕ} (t : Trial size number
             cofactor : rest / d ∣ rest
             cofactor = divides_of_multiple (rest / d) d product
 
-    pub rest_fails : is_square_modulo rest number ≡ false → At rest ≡ least_below (fails size number) (suc size)
+    rest_fails : is_square_modulo rest number ≡ false → Some rest ≡ least_below (fails size number) (suc size)
     rest_fails = first_failing rest rest_prime (dvd_refl rest) (λ k p h. ⊎_elim (λ one. absurd (prime_not_one p one)) (λ e. omega arith) (rest_prime.only_divisors k h))
 
-    pub rest_holds : is_square_modulo rest number ≡ true → Nothing ≡ least_below (fails size number) (suc size)
+    rest_holds : is_square_modulo rest number ≡ true → None ≡ least_below (fails size number) (suc size)
     rest_holds holds = none_failing (λ l p h. ⊎_elim (λ one. absurd (prime_not_one p one)) (λ e. rw e holds) (rest_prime.only_divisors l h))
+
+    pub rest_decides : (square : Bool) → is_square_modulo rest number ≡ square → then_some (not square) rest ≡ least_below (fails size number) (suc size)
+    rest_decides true e = rest_holds e
+    rest_decides false e = rest_fails e

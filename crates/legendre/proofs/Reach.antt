@@ -5,12 +5,16 @@ use mathlib.Core.List.{[], ◌∷◌}
 use Prim.Native.Nat.{ℕ, suc, ◌*◌, ◌^◌, ◌≤◌}
 use native.Mathlib.Nat.{le_trans, le_of_eq, mul_comm, le-mul_of_pos_right, mul-le-mul_left, le_of_suc-le-suc}
 use native.Mathlib.Omega.{arith}
-use lib.IntN.{ℤ, pos, nat_abs, ◌*ℤ◌}
+use lib.IntN.{ℤ, pos, nat_abs, ◌+ℤ◌, ◌*ℤ◌}
+use mir.Syntax.{w64}
+use mir.Val.{SFits}
+use mir.Facts.{to_z-of_z}
 use Rattle.whole.proofs.Ring.{by_ring, reify}
-use Rattle.whole.proofs.Size.{nat_abs-*}
+use Rattle.whole.proofs.Size.{nat_abs-+, nat_abs-*}
 use Rattle.number.proofs.Square.{order_of_squares}
 use Rattle.number.proofs.Squarefree.{squarefree_positive}
-use Rattle.legendre.specs.Reach.{Reach, Part, Terms, Triable}
+use Rattle.legendre.specs.Reach.{Reach, Part, Place, Terms, Triable}
+use Rattle.legendre.proofs.MachineProducts.{kept, small_fits}
 
 term_small : (a : ℤ) {n : ℕ} (m : ℕ) → n ≤ m → m * nat_abs a ≤ 2 ^ 60 → nat_abs (a *ℤ pos n) ≤ 2 ^ 60
 term_small a {n} m h small =
@@ -21,6 +25,28 @@ pub root_small : (n : ℕ) → n * n ≤ 2 ^ 60 → n ≤ 2 ^ 30
 root_small n h = le_of_suc-le-suc (order_of_squares n (suc (2 ^ 30)) (omega arith))
 
 module _ {p g q : ℤ} (reach : Reach p g q) where
+  pub p_fits : SFits w64 p
+  p_fits = small_fits (omega (arith, reach.small_p))
+
+  pub g_fits : SFits w64 g
+  g_fits = small_fits (omega (arith, reach.small_g))
+
+  pub q_fits : SFits w64 q
+  q_fits = small_fits (omega (arith, reach.small_q))
+
+  -- so the machine keeps them
+  pub kept_p : kept p ≡ p
+  kept_p = to_z-of_z p_fits
+
+  pub kept_g : kept g ≡ g
+  kept_g = to_z-of_z g_fits
+
+  pub kept_q : kept q ≡ q
+  kept_q = to_z-of_z q_fits
+
+  pub in_the_numbers : {A : Type 0} (f : ℤ → ℤ → ℤ → A) → f (kept p) (kept g) (kept q) ≡ f p g q
+  in_the_numbers f i = f (kept_p i) (kept_g i) (kept_q i)
+
   pub triable_p : Triable (nat_abs p)
   triable_p = record { positive = squarefree_positive reach.levelled.squarefree_p; small = reach.small_p }
 
@@ -64,10 +90,13 @@ module _ {p g q : ℤ} (reach : Reach p g q) where
   pub part_q : Part q p g
   part_q = record { size = triable_q; product = pg_small }
 
-  pub terms_small : {w x : ℕ} → w * w ≤ nat_abs (p *ℤ g) → x * x ≤ nat_abs (g *ℤ q) → Terms p q w x
-  terms_small w_within x_within = record {
-    x_square = le_trans x_within gq_small;
-    w_square = le_trans w_within pg_small;
-    x_term = term_small p (nat_abs (g *ℤ q)) x_within p_last;
-    w_term = term_small q (nat_abs (p *ℤ g)) w_within q_last;
+  pub terms_small : {w x : ℕ} → Place p g q w x → Terms p q w x
+  terms_small place = record {
+    x_square = le_trans place.x_within gq_small;
+    w_square = le_trans place.row.w_within pg_small;
+    x_term = term_small p (nat_abs (g *ℤ q)) place.x_within p_last;
+    w_term = term_small q (nat_abs (p *ℤ g)) place.row.w_within q_last;
   }
+
+pub terms_at_most : {p q : ℤ} {w x : ℕ} → Terms p q w x → nat_abs (p *ℤ pos (x * x) +ℤ q *ℤ pos (w * w)) ≤ 2 ^ 62
+terms_at_most {p} {q} {w} {x} t = omega (arith, nat_abs-+ (p *ℤ pos (x * x)) (q *ℤ pos (w * w)), t.x_term, t.w_term)

@@ -1,6 +1,6 @@
--- The levelled equation's answer, as the paper gives it: sign; else the least failing prime; else, of the box's solutions, the one
--- with the least W, then the least X. Every "least" is a search. Assumes nothing.
-use Rattle.std.specs.Prelude.{Bool, ◌&&◌, ◌||◌, not, cond, ℕ, suc, max, eqb, ltb, ℤ, pos, neg_ℤ, nat_abs, ◌*ℤ◌}
+-- The levelled equation's answer, as the paper gives it: sign; else the least failing prime; else, of the box's solutions,
+-- the one with the least W, then the least X. Every "least" is a search. Assumes nothing.
+use Rattle.std.specs.Prelude.{Bool, ◌&&◌, ◌||◌, not, cond, Result, Ok, Err, ℕ, suc, max, eqb, ltb, ℤ, pos, neg_ℤ, nat_abs, ◌*ℤ◌}
 use Rattle.std.specs.Int.Signed.{lt_z}
 use Rattle.number.specs.Divides.{divides}
 use Rattle.number.specs.Least.{least}
@@ -9,8 +9,8 @@ use Rattle.number.specs.Residue.{is_square_modulo}
 use Rattle.number.specs.Square.{root_of}
 use Rattle.legendre.specs.Equation.{form}
 use Rattle.legendre.specs.declared.outcome.Triple.{Triple}
-use Rattle.legendre.specs.declared.outcome.Outcome.{Outcome}
-use Rattle.legendre.specs.declared.outcome.Outcome.TheVariants.{Sign, Prime, Solution}
+use Rattle.legendre.specs.declared.outcome.Reason.{Reason}
+use Rattle.legendre.specs.declared.outcome.Reason.TheVariants.{Sign, Prime}
 
 unfoldable pub is_one_sign : ℤ → ℤ → ℤ → Bool
 is_one_sign p g q =
@@ -55,8 +55,8 @@ chosen p g q =
     let x = least_x p g q w in
     record { x = x; y = least_y p g q w x; w = w }
 
-unfoldable pub outcome_of : ℤ → ℤ → ℤ → Outcome
+unfoldable pub outcome_of : ℤ → ℤ → ℤ → Result Triple Reason
 outcome_of p g q =
     cond (is_one_sign p g q)
-    Sign
-    (cond (ltb (least_failing p g q) (prime_limit p g q)) (Prime (least_failing p g q)) (Solution (chosen p g q)))
+    (Err Sign)
+    (cond (ltb (least_failing p g q) (prime_limit p g q)) (Err (Prime (least_failing p g q))) (Ok (chosen p g q)))

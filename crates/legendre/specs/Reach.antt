@@ -1,7 +1,7 @@
--- What the functions on machine numbers ask of their arguments: levelled coefficients whose product is at most 2⁶⁰ in size, so that in
--- the box each of pX², gY² and qW² is at most 2⁶⁰ too. Assumes nothing.
+-- What the functions on machine numbers ask of their arguments: levelled coefficients whose product is at most 2⁶⁰ in size,
+-- so that in the box each of pX², gY² and qW² is at most 2⁶⁰ too. Assumes nothing.
 use Rattle.std.specs.Prelude.{ℕ, ◌*◌, ◌^◌, ◌≤◌, ◌<◌, ℤ, pos, nat_abs, ◌*ℤ◌}
-use Rattle.legendre.specs.Equation.{Levelled, SolvableInBox}
+use Rattle.legendre.specs.Equation.{Levelled}
 
 pub record Reach (p g q : ℤ) : Type 0 where
   pub levelled : Levelled p g q
@@ -21,13 +21,12 @@ pub record Part (a b c : ℤ) : Type 0 where
   pub product : nat_abs (b *ℤ c) ≤ 2 ^ 60
 
 -- W in the box
-pub record Row (p g q : ℤ) (w : ℕ) : Type 0 where
-  pub reach : Reach p g q
+pub record Row (p g : ℤ) (w : ℕ) : Type 0 where
   pub w_within : w * w ≤ nat_abs (p *ℤ g)
 
 -- W and X in the box
 pub record Place (p g q : ℤ) (w x : ℕ) : Type 0 where
-  pub row : Row p g q w
+  pub row : Row p g w
   pub x_within : x * x ≤ nat_abs (g *ℤ q)
 
 -- pX² and qW² with each of their factors and products within 2⁶⁰
@@ -36,8 +35,3 @@ pub record Terms (p q : ℤ) (w x : ℕ) : Type 0 where
   pub w_square : w * w ≤ 2 ^ 60
   pub x_term : nat_abs (p *ℤ pos (x * x)) ≤ 2 ^ 60
   pub w_term : nat_abs (q *ℤ pos (w * w)) ≤ 2 ^ 60
-
--- the box holds a solution
-pub record Walkable (p g q : ℤ) : Type 0 where
-  pub reach : Reach p g q
-  pub solvable : SolvableInBox p g q

@@ -3,22 +3,20 @@ ghost use Rattle.std.specs.Prelude.{◌≡◌};
 ghost use Rattle.legendre.specs.Outcome.{outcome_of};
 ghost use Rattle.legendre.specs.Reach.{Reach};
 
-use crate::failing::least_failing;
-use crate::least::Least;
-use crate::outcome::Outcome;
-use crate::signs::one_sign;
-use crate::walk::chosen;
+use crate::equation::Equation;
+use crate::outcome::{Reason, Triple};
 
 // The cost of `least_failing`, and where no prime fails that of `chosen`.
-pub fn outcome(p: i64, g: i64, q: i64) -> Outcome
+pub fn outcome(p: i64, g: i64, q: i64) -> Result<Triple, Reason>
     requires { Reach p g q }
     ensures { result ≡ outcome_of p g q }
 {
-    if one_sign(p, g, q) {
-        return Outcome::Sign;
+    let equation = Equation { p, g, q };
+    if equation.one_sign() {
+        return Err(Reason::Sign);
     }
-    if let Least::At(prime) = least_failing(p, g, q) {
-        return Outcome::Prime(prime);
+    if let Some(prime) = equation.least_failing() {
+        return Err(Reason::Prime(prime));
     }
-    Outcome::Solution(chosen(p, g, q))
+    Ok(equation.chosen())
 }

@@ -2,8 +2,8 @@
 #![tactic(auto)]
 
 pub mod decide;
+mod equation;
 mod failing;
-mod least;
 pub mod outcome;
 mod signs;
 mod walk;

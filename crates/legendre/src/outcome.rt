@@ -6,10 +6,9 @@ pub struct Triple {
     pub w: u64,
 }
 
-// What becomes of a levelled equation: none by sign, none by a prime, or its chosen solution.
-#[derive(Clone, Copy)]
-pub enum Outcome {
+// Why there is none: by sign, or by the least prime at which Legendre's condition fails.
+#[derive(Clone, Copy, PartialEq, Eq)]
+pub enum Reason {
     Sign,
     Prime(u64),
-    Solution(Triple),
 }

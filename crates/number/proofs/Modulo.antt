@@ -4,9 +4,8 @@ use mathlib.Core.Path.{◌≡◌, refl, sym, ap, ◌∙◌, subst}
 use mathlib.Core.Logic.{⊎_elim}
 use mathlib.Core.List.{[], ◌∷◌}
 use Prim.Native.Nat.{ℕ, zero, suc, ◌+◌, ◌*◌, ◌^◌, ◌/◌, ◌%◌, ◌<◌, ◌∣◌}
-use native.Mathlib.Nat.{mod-mod, mul_assoc, pow-zero, pow-suc, mod-eq_of_lt, mul-one, pow-succ', mul-le-mul, lt_of_le_of_lt}
+use native.Mathlib.Nat.{mod-mod, mul_assoc, pow-zero, pow-suc, mod-eq_of_lt, mul-one, pow-succ'}
 use native.Mathlib.Omega.{arith}
-use lib.Dec.{lit<}
 use lib.IntN.{ℤ, pos, ◌-ℤ◌, ◌*ℤ◌}
 use Rattle.whole.proofs.Ring.{by_ring, reify}
 use Rattle.number.specs.Divides.{◌∣ℤ◌}
@@ -75,7 +74,3 @@ cancel_factor {l} prime r a b away p =
   where
     out_of_difference : (r a b : ℤ) → r *ℤ a -ℤ r *ℤ b ≡ r *ℤ (a -ℤ b)
     out_of_difference r a b = by_ring (r ∷ a ∷ b ∷ []) (search reify depth 64 fits 9999) tt
-
--- ---- residues below 2³²
-pub small_product : {a b : ℕ} → a < 2 ^ 32 → b < 2 ^ 32 → a * b < 2 ^ 64
-small_product {a} {b} h k = lt_of_le_of_lt (mul-le-mul {n₂ = 4294967295} {m₂ = 4294967295} (omega arith) (omega arith)) (lit< tt)

@@ -5,7 +5,7 @@ use mathlib.Core.Path.{◌≡◌, sym, ◌∙◌, ap, subst}
 use mathlib.Core.Logic.{◌≢◌, ◌⊎◌, ⊎_elim}
 use mathlib.Core.Bool.{true, false}
 use Prim.Native.Nat.{ℕ, ◌+◌, ◌*◌, ◌/◌, ◌%◌, ◌^◌, ◌∣◌, ◌≤◌, ◌<◌}
-use native.Mathlib.Nat.{mul_assoc, mul_comm, mul-one, one-mul, mul-pos, mul-le-mul, mul-le-mul_left, le-mul_of_pos_right, le_trans, le_antisymm, eq-or-lt_of_le, le_of_dvd, lt_of_mul-lt-mul_right, lt_of_lt_of_le, lt_of_le_of_lt, lt_of_not-le, pos_of_dvd_of_pos, pos_of_ne-zero, dvd_trans, dvd-mul_right, dvd_of_mod-eq-zero, mod-eq-zero_of_dvd, le-div_iff_mul-le, div-lt_iff_lt-mul, div-le_self, div-lt_self}
+use native.Mathlib.Nat.{mul_assoc, mul_comm, mul-one, one-mul, mul-pos, mul-le-mul, mul-le-mul_left, le-mul_of_pos_right, le_trans, le_antisymm, eq-or-lt_of_le, le_of_dvd, lt_of_mul-lt-mul_right, lt_of_lt_of_le, lt_of_not-le, pos_of_dvd_of_pos, pos_of_ne-zero, dvd_trans, dvd-mul_right, dvd_of_mod-eq-zero, mod-eq-zero_of_dvd, le-div_iff_mul-le, div-lt_iff_lt-mul, div-le_self}
 use native.Mathlib.Omega.{arith}
 use lib.IntN.{pos}
 use Rattle.number.specs.Gcd.{Coprime}
@@ -95,16 +95,6 @@ pub record Trial (n rest square divisor : ℕ) : Type 0 where
   pub divisor_bound : divisor ≤ divisor_limit
   pub tried : NoDivisorBelow divisor rest
 
-pub trial_start : (n : ℕ) → Trial n n 1 2
-trial_start n =
-    record {
-      part = one-mul (square_part (pos n));
-      at_most = omega arith;
-      from_two = omega arith;
-      divisor_bound = omega arith;
-      tried = record { none = λ k two below h. omega arith };
-    }
-
 square_at_most : {n m s d : ℕ} → Trial n m s d → 0 < m → s ≤ n
 square_at_most {n} {m} {s} t p =
     le_trans (rw (← t.part) (le-mul_of_pos_right s (divided m p).positive)) (square_part_at_most n)
@@ -119,12 +109,6 @@ module _ {n m s d : ℕ} (t : Trial n m s d) (more : d * d ≤ m / d) where
   rest_positive =
       let positive : 0 < d = omega arith in
       lt_of_lt_of_le (mul-pos (mul-pos positive positive) positive) cube_at_most
-
-  pub quotient_below : m / d < m
-  quotient_below = div-lt_self rest_positive t.from_two
-
-  pub second_quotient_below : m / d / d < m
-  second_quotient_below = lt_of_le_of_lt (div-le_self (m / d) d) quotient_below
 
   pub divisor_below_bound : n < 2 ^ 64 → d < divisor_limit
   divisor_below_bound fits = lt_of_not-le (λ above. too_large (mul-le-mul (mul-le-mul above above) above))

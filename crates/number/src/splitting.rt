@@ -12,8 +12,9 @@ pub struct Parts {
     pub square: u64,
 }
 
-// The root of the greatest square that divides n. Divisors go up to the cube root of what is left of n, which then has at most two
-// prime factors, so that it is a square or squarefree. At most ∛n + log₂ n turns, with at most five divisions each, and two roots.
+// The root of the greatest square that divides n. Divisors go up to the cube root of what is left of n, which then has
+// at most two prime factors, so that it is a square or squarefree. At most ∛n + log₂ n turns, with at most five
+// divisions each, and two roots.
 fn square_part(n: u64) -> u64
     ensures { result ≡ square_part (pos n) }
 {

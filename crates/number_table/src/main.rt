@@ -3,7 +3,6 @@
 
 ghost use Rattle.number.specs.Root.{PrimeModulus};
 
-use number::residue::Root;
 use number::{euclid, residue, roots, splitting};
 use std::io;
 
@@ -15,6 +14,7 @@ fn gcd_row(rt: &impl Print, a: u64) -> io::Result<()> {
     println!(rt;)
 }
 
+// Four tables, not one over impl Fn: the rows of the last ask for primes, which a bound would have to carry.
 fn gcd_table(rt: &impl Print) -> io::Result<()> {
     println!(rt; "greatest common divisor of 0 to 12 (down) and 0 to 12 (across)")?;
     for a in 0..13 {
@@ -33,12 +33,14 @@ fn root_row(rt: &impl Print, n: u64) -> io::Result<()> {
 
 fn root_table(rt: &impl Print) -> io::Result<()> {
     println!(rt; "integer root")?;
-    for n in 0..27 {
+    for n in (0..27).chain([
+        18446744065119617024,
+        18446744065119617025,
+        18446744073709551615,
+    ]) {
         root_row(rt, n)?;
     }
-    root_row(rt, 18446744065119617024)?;
-    root_row(rt, 18446744065119617025)?;
-    root_row(rt, 18446744073709551615)
+    Ok(())
 }
 
 fn split_row(rt: &impl Print, n: i64) -> io::Result<()> {
@@ -48,22 +50,17 @@ fn split_row(rt: &impl Print, n: i64) -> io::Result<()> {
 
 fn split_table(rt: &impl Print) -> io::Result<()> {
     println!(rt; "squarefree split")?;
-    for n in 0..51 {
+    for n in (0..51).chain([-1, -12, -50, -20480000, -800000000, -9223372036854775808]) {
         split_row(rt, n)?;
     }
-    split_row(rt, -1)?;
-    split_row(rt, -12)?;
-    split_row(rt, -50)?;
-    split_row(rt, -20480000)?;
-    split_row(rt, -800000000)?;
-    split_row(rt, -9223372036854775808)
+    Ok(())
 }
 
+// A prime by number and clause, here and below, as `least_root` asks for it.
 fn root_modulo(rt: &impl Print, prime: u64, n: i64) -> io::Result<()>
     requires { PrimeModulus prime }
 {
-    let root = residue::least_root(prime, n);
-    if let Root::Least(r) = root {
+    if let Some(r) = residue::least_root(prime, n) {
         print!(rt; " {r}")
     } else {
         print!(rt; " -")
@@ -83,15 +80,10 @@ fn residue_row(rt: &impl Print, prime: u64) -> io::Result<()>
 
 fn residue_table(rt: &impl Print) -> io::Result<()> {
     println!(rt; "least root of 0 to 16 modulo a prime")?;
-    residue_row(rt, 2)?;
-    residue_row(rt, 3)?;
-    residue_row(rt, 5)?;
-    residue_row(rt, 7)?;
-    residue_row(rt, 11)?;
-    residue_row(rt, 13)?;
-    residue_row(rt, 17)?;
-    residue_row(rt, 10007)?;
-    residue_row(rt, 10009)
+    for prime in [2, 3, 5, 7, 11, 13, 17, 10007, 10009] {
+        residue_row(rt, prime)?;
+    }
+    Ok(())
 }
 
 fn main(rt: HostRuntime) -> io::Result<()> {

@@ -2,7 +2,8 @@
 #![tactic(auto)]
 
 ghost use Rattle.std.specs.Prelude.{◌≡◌};
-ghost use Rattle.point.specs.Normal.{common_factor, leading, signed, over, largest, normal_within, normal_direction_within};
+ghost use Rattle.point.specs.Normal.{common_factor, leading, signed, over, largest};
+ghost use Rattle.point.specs.Normal.{normal_within, normal_direction_within};
 ghost use Rattle.point.specs.Paper.{within, point_in_limit, direction_in_limit};
 ghost use Rattle.point.specs.Legal.{is_normal, is_base, is_target, is_direction};
 ghost use Rattle.point.specs.Sizes.{PointWithin};
@@ -14,7 +15,7 @@ pub mod paper;
 pub mod size;
 
 // A point: three whole numbers, up to a common factor.
-#[derive(Clone, Copy)]
+#[derive(Clone, Copy, PartialEq, Eq)]
 pub struct Point {
     pub x: i64,
     pub y: i64,
@@ -46,7 +47,8 @@ impl Point {
 
     pub const THIRD_LINE: Point = Point { x: 0, y: 1, z: 1 };
 
-    // The normal form of (x, y, z). Some thirty steps and two greatest common divisors.
+    // The normal form of (x, y, z). Some thirty steps and two greatest common divisors. (0, 0, 0) stands for none,
+    // and is no Option, since `normal_within` says so of a public function.
     pub fn normal(x: i64, y: i64, z: i64) -> Point
         ensures { result ≡ normal_within (record { x = x; y = y; z = z }) }
     {
@@ -90,7 +92,7 @@ impl Point {
         if self.leading() < 0 { -factor } else { factor }
     }
 
-    // Three divisions, exact where n divides the three numbers.
+    // Three divisions, exact where n divides the three numbers. By 0 it is (0, 0, 0), as its definition says.
     fn over(self, n: i64) -> Point
         requires { PointWithin largest self }
         ensures { result ≡ over n self }
@@ -106,7 +108,7 @@ impl Point {
         }
     }
 
-    // Six comparisons.
+    // Three comparisons.
     fn in_limit(self) -> bool
         ensures { result ≡ point_in_limit self }
     {
@@ -120,14 +122,14 @@ impl Point {
         (self.common_factor() == 1) & (self.leading() > 0)
     }
 
-    // Eleven comparisons and two greatest common divisors.
+    // Eight comparisons and two greatest common divisors.
     pub fn is_base(self) -> bool
         ensures { result ≡ is_base self }
     {
         self.is_target() & (self.z > 0)
     }
 
-    // Ten comparisons and two greatest common divisors.
+    // Seven comparisons and two greatest common divisors.
     pub fn is_target(self) -> bool
         ensures { result ≡ is_target self }
     {
@@ -144,14 +146,14 @@ impl Direction {
         Direction { u: p.x, v: p.y }
     }
 
-    // Four comparisons.
+    // Two comparisons.
     fn in_limit(self) -> bool
         ensures { result ≡ direction_in_limit self }
     {
         size::within(self.u, DIRECTION_LIMIT) & size::within(self.v, DIRECTION_LIMIT)
     }
 
-    // Six comparisons.
+    // Four comparisons.
     pub fn is_direction(self) -> bool
         ensures { result ≡ is_direction self }
     {

@@ -11,12 +11,12 @@ pub const POINT_LIMIT: u32 = 160_000_000;
 // Each number of a direction handed in is at most this in size.
 pub const DIRECTION_LIMIT: u32 = 10_000;
 
-// The refusals, in the order of the paper's table.
-#[derive(Clone, Copy)]
+// The refusals, in the order of the paper's table and with its numbers.
+#[derive(Clone, Copy, PartialEq, Eq)]
 pub enum Refusal {
-    Range,
-    Degenerate,
-    Base,
+    Range = 1,
+    Degenerate = 2,
+    Base = 5,
     BaseOff,
     Direction,
     Target,
@@ -35,21 +35,6 @@ impl Refusal {
     pub fn number(self) -> u64
         ensures { result ≡ number self }
     {
-        match self {
-            Refusal::Range => 1,
-            Refusal::Degenerate => 2,
-            Refusal::Base => 5,
-            Refusal::BaseOff => 6,
-            Refusal::Direction => 7,
-            Refusal::Target => 8,
-            Refusal::TargetOff => 9,
-            Refusal::Row => 10,
-            Refusal::Buffer => 11,
-            Refusal::Layout => 12,
-            Refusal::Body => 13,
-            Refusal::Room => 14,
-            Refusal::List => 15,
-            Refusal::Number => 16,
-        }
+        self as u64
     }
 }

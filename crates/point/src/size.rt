@@ -2,15 +2,14 @@
 ghost use Rattle.std.specs.Prelude.{◌≡◌, ◌&&◌};
 ghost use Rattle.point.specs.Paper.{within, is_zero};
 
-// Whether n is at most the limit in size: two comparisons, and no absolute value, which -2⁶³ has not.
+// Whether n is at most the limit in size: one comparison.
 pub fn within(n: i64, limit: u32) -> bool
     ensures { result ≡ within limit n }
 {
-    let most = limit as i64;
-    -most <= n && n <= most
+    n.unsigned_abs() <= u64::from(limit)
 }
 
-// Six comparisons.
+// Three comparisons.
 pub fn all_within(x: i64, y: i64, z: i64, limit: u32) -> bool
     ensures { result ≡ within limit x && within limit y && within limit z }
 {

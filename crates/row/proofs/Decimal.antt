@@ -2,15 +2,21 @@
 -- have the same. Assumes nothing.
 use mathlib.Core.Path.{◌≡◌, refl, sym, ap, ◌∙◌, subst}
 use mathlib.Core.List.{List, [], ◌∷◌, ◌++◌}
-use Prim.Native.Nat.{ℕ, zero, suc, ◌+◌, ◌-◌, ◌*◌, ◌/◌, ◌%◌, ◌^◌, ◌≤◌, ◌<◌}
+use Prim.Native.Nat.{ℕ, zero, suc, ◌+◌, ◌/◌, ◌%◌, ◌^◌, ◌≤◌, ◌<◌}
 use native.Mathlib.Nat.{pow-suc, mod-eq_of_lt, not-suc-le-zero, le_refl}
 use native.Mathlib.Omega.{arith}
 use lib.Dec.{ltb}
+use lib.IntN.{ℤ, pos, negsuc, nat_abs}
+use lib.Signed.{le_z}
+use mir.Facts.{to_z-of_z}
+use Rattle.std.proofs.lemmas.Grind.{common_steps}
+use mathlib.Core.Bool.{true, false}
 use lib.ListN.{length, length-append}
-use borrow.Author.Tests.{ltb-true, ltb-false, lt-ltb, le-ltb}
+use borrow.Author.Tests.{leb-false, ltb-true, ltb-false, lt-ltb, le-ltb}
 use Rattle.point.proofs.Cases.{by_test}
 use Rattle.row_reader.specs.Reading.{minus, digit_zero, value_from}
-use Rattle.row.specs.Writing.{digits, decimal}
+use Rattle.row_reader.proofs.Digits.{Above, above_append, value_append}
+use Rattle.row.specs.Writing.{digits, decimal, signed_decimal}
 
 -- ---- the two equations
 
@@ -48,6 +54,21 @@ decimal_large (suc n) h =
     ∙ ap (λ (ds : List ℕ). ds ++ (digit_zero + suc n % 10) ∷ [])
     (digits_enough n (suc n / 10) (suc n / 10) (omega arith) (omega arith))
 
+-- ---- any number's
+
+pub from_zero : (n : ℤ) → le_z (pos 0) n ≡ true → signed_decimal n ≡ decimal (nat_abs n)
+unfolding signed_decimal
+from_zero (pos n) h = refl
+from_zero (negsuc n) h = cc
+
+pub below_zero : (n : ℤ) → le_z (pos 0) n ≡ false → signed_decimal n ≡ minus ∷ decimal (nat_abs n)
+unfolding signed_decimal
+below_zero (pos n) h = absurd (omega (arith, leb-false 0 n h))
+below_zero (negsuc n) h = refl
+
+-- the steps of writing one
+pub ruleset numbers = (common_steps, to_z-of_z, decimal_small, decimal_large, from_zero, below_zero)
+
 -- ---- what holds of every number's digits: of one digit's, and of a tenth's with one digit more
 
 by_digits : (P : ℕ → List ℕ → Type 0) → ((n : ℕ) → n < 10 → P n ((digit_zero + n) ∷ [])) →
@@ -71,26 +92,12 @@ decimal_length = by_digits (λ n ds. (k : ℕ) → n < 10 ^ suc k → length ds 
     more n ds l tenth (suc k) h =
         simp length-append (omega (arith, tenth k (omega (arith, rw (pow-suc 10 (suc k)) at h))))
 
--- every byte is above k
-abbrev pub Above : ℕ → List ℕ → Type 0
-Above k [] = Unit {0}
-Above k (b ∷ bytes) = (k < b) × Above k bytes
-
-above_append : (k : ℕ) (xs ys : List ℕ) → Above k xs → Above k ys → Above k (xs ++ ys)
-above_append k [] ys h i = i
-above_append k (x ∷ xs) ys h i = (h.0, above_append k xs ys h.1 i)
-
 -- the minus sign is below the digits
 pub decimal_above : (n : ℕ) → Above minus (decimal n)
 decimal_above =
     by_digits (λ n ds. Above minus ds) (λ n s. (omega arith, tt)) (λ n ds l h. above_append minus ds _ h (omega arith, tt))
 
 -- ---- read back
-
-value_append : (v : ℕ) (ds : List ℕ) (b : ℕ) → value_from v (ds ++ b ∷ []) ≡ value_from v ds * 10 + (b - digit_zero)
-unfolding value_from
-value_append v [] b = refl
-value_append v (d ∷ ds) b = value_append (v * 10 + (d - digit_zero)) ds b
 
 pub decimal_value : (n : ℕ) → value_from 0 (decimal n) ≡ n
 unfolding value_from

@@ -1,19 +1,19 @@
--- The promise of a text row determines its answer, which can be told from what it stands for in the paper, and the buffer. Assumes
--- nothing.
+-- The promise of a text row determines its answer, which can be told from what it stands for in the paper, and the
+-- buffer. Assumes nothing.
 use mathlib.Core.List.{List}
 use mathlib.Core.Path.{◌≡◌, refl, sym, ap, ◌∙◌}
 use Prim.Native.Nat.{ℕ}
 use Rattle.point.proofs.Promise.{told_apart, numbered, numbered_number}
-use Rattle.row.specs.Row.{RowAnswer, row_length, no_row, written, RowPromise}
-use Rattle.row.specs.declared.Written.{Written}
+use Rattle.std.specs.Prelude.{Ok, Err}
+use Rattle.row.specs.Row.{RowAnswer, row_length, no_row, Written, written, RowPromise}
 
 abbrev to_written : RowAnswer → Written
-to_written (row_length n) = Written.Length n
-to_written (no_row n) = Written.Refused (numbered n)
+to_written (row_length n) = Ok n
+to_written (no_row n) = Err (numbered n)
 
 written_back : (r : Written) → to_written (written r) ≡ r
-written_back (Written.Length n) = refl
-written_back (Written.Refused r) = ap Written.Refused (numbered_number r)
+written_back (Ok n) = refl
+written_back (Err r) = ap Err (numbered_number r)
 
 pub same_written : (r r' : Written) → written r ≡ written r' → r ≡ r'
 same_written = told_apart written to_written written_back

@@ -3,7 +3,7 @@
 use mathlib.Core.Bool.{true, false, cond}
 use mathlib.Core.List.{List}
 use mathlib.Core.Logic.{◌↔◌}
-use mathlib.Core.Option.{Option, some, none}
+use Rattle.std.specs.Prelude.{Option, Some, None}
 use mathlib.Core.Path.{◌≡◌, refl, sym, ap, ◌∙◌, subst}
 use Prim.Native.Nat.{ℕ}
 use lib.IntN.{pos, nat_abs}
@@ -22,7 +22,6 @@ use Rattle.solve.specs.Solve.{solve_of}
 use Rattle.solve.proofs.Answers.{is_refusal, refused}
 use Rattle.row_reader.specs.Grammar.{SixNumbers, ReadGivesExactly, ReadRefusesExactly}
 use Rattle.row_reader.specs.Reading.{read_row}
-use Rattle.row_reader.proofs.Digits.{never}
 use Rattle.row_reader.proofs.Grammar.{read_gives_exactly, read_refuses_exactly}
 use Rattle.row.specs.Refusals.{BufferCause, short_buffer, RowRefusesExactly, ContentCause, not_read, out_of_range, degenerate, RowSaysRefusalExactly}
 use Rattle.row.specs.Row.{verdict_on, row_of, too_short, buffer_limit, RowAnswer, row_length, no_row}
@@ -45,7 +44,7 @@ buffer_refused {a} buffer bytes n is = (cause, λ c. is ∙ refusal_of c)
         (λ t.
         let eleven = when (no_row 11) (row_length (length bytes)) t ∙ sym is ∙ e in
         subst (BufferCause buffer) (cc) (short_buffer (ltb-true (length buffer) buffer_limit t)))
-        (λ f. let other = unless (no_row 11) (row_length (length bytes)) f ∙ sym is ∙ e in never (cc))
+        (λ f. let other = unless (no_row 11) (row_length (length bytes)) f ∙ sym is ∙ e in cc)
 
     refusal_of :
         {m : ℕ} → BufferCause buffer m →
@@ -96,8 +95,8 @@ unfolding RowSaysRefusalExactly RowTellsAnswer ReadGivesExactly ReadRefusesExact
 row_says_refusal_exactly text n = (λ e. cause (read_row text) refl (row_tells_answer _ _ e), said)
   where
     cause : (o : Option Conic) → read_row text ≡ o → verdict_on o ≡ refusal n → ContentCause text n
-    cause (some h) e f = solve_cause text h n ((read_gives_exactly text h).0 e) f
-    cause none e f = subst (ContentCause text) (cc) (not_read ((read_refuses_exactly text).0 e))
+    cause (Some h) e f = solve_cause text h n ((read_gives_exactly text h).0 e) f
+    cause None e f = subst (ContentCause text) (cc) (not_read ((read_refuses_exactly text).0 e))
 
     solved : {m : ℕ} (h : Conic) → SixNumbers text h → refusal m ≡ solve_of h → row_of text ≡ row_text (refusal m)
     solved h six e = rw ((read_gives_exactly text h).1 six, sym e)

@@ -1,9 +1,8 @@
--- Two answers with the same row text are equal: the first bytes tell the kind, no byte of a number is a space or a line feed, so that
--- the numbers are told apart, and a number's digits tell the number. Assumes nothing.
+-- Two answers with the same row text are equal: the first bytes tell the kind, no byte of a number is a space or a line
+-- feed, so that the numbers are told apart, and a number's digits tell the number. Assumes nothing.
 use mathlib.Core.Path.{◌≡◌, refl, sym, ap, ◌∙◌, subst}
 use mathlib.Core.List.{List, [], ◌∷◌, ◌++◌, append_assoc}
 use Prim.Native.Nat.{ℕ, suc, ◌≤◌}
-use native.Mathlib.Nat.{lt_of_le_of_lt}
 use native.Mathlib.Omega.{arith}
 use lib.Dec.{lit<, lit≤}
 use lib.IntN.{ℤ, pos, negsuc}
@@ -12,7 +11,8 @@ use Rattle.point.specs.declared.Point.{Point}
 use Rattle.row_reader.specs.Reading.{space, minus}
 use Rattle.row.specs.Writing.{line_feed, decimal, signed_decimal, row_text}
 use Rattle.row.specs.Theorems.{RowTellsAnswer}
-use Rattle.row.proofs.Decimal.{Above, decimal_above, decimal_injective}
+use Rattle.row_reader.proofs.Digits.{Above, above_less}
+use Rattle.row.proofs.Decimal.{decimal_above, decimal_injective}
 
 heads : {a b : ℕ} {xs ys : List ℕ} → a ∷ xs ≡ b ∷ ys → a ≡ b
 heads e = cc
@@ -31,10 +31,6 @@ same_front k (x ∷ xs) (y ∷ ys) h i c d e =
     let (front, rest) = same_front k xs ys h.1 i.1 c d (tails e) in
     let first : x ≡ y = heads e in
     (cc, rest)
-
-above_less : (j k : ℕ) (xs : List ℕ) → j ≤ k → Above k xs → Above j xs
-above_less j k [] l h = tt
-above_less j k (x ∷ xs) l h = (lt_of_le_of_lt l h.0, above_less j k xs l h.1)
 
 decimal_bytes : (n : ℕ) → Above space (decimal n)
 decimal_bytes n = above_less space minus (decimal n) (lit≤ tt) (decimal_above n)

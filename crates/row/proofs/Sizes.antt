@@ -1,7 +1,7 @@
--- A row has at most 40 bytes: solve's points are within the limit, so that their numbers have nine digits at most, its primes have nine
--- digits at most, and there are no refusals above 10 here. Assumes nothing.
+-- A row has at most 40 bytes: solve's points are within the limit, so that their numbers have nine digits at most, its
+-- primes have nine digits at most, and there are no refusals above 10 here. Assumes nothing.
 use mathlib.Core.Path.{◌≡◌, refl}
-use mathlib.Core.Option.{Option, some, none}
+use Rattle.std.specs.Prelude.{Option, Some, None}
 use Prim.Native.Nat.{suc, ◌^◌, ◌≤◌, ◌<◌}
 use native.Mathlib.Nat.{lt_of_le_of_lt}
 use native.Mathlib.Omega.{arith}
@@ -50,8 +50,8 @@ solve_small h (refusal n) e = lt_of_le_of_lt (refusal_at_most h n e) (lit< tt)
 
 verdict_small : (o : Option Conic) → Small (verdict_on o)
 unfolding verdict_on
-verdict_small none = lit< tt
-verdict_small (some h) = solve_small h (solve_of h) refl
+verdict_small None = lit< tt
+verdict_small (Some h) = solve_small h (solve_of h) refl
 
 pub rows_fit : RowsFit
 unfolding RowsFit row_of

@@ -1,6 +1,4 @@
 pub mod Writing
-pub mod Buffer
-pub mod Texts
 pub mod Row
 pub mod Theorems
 pub mod Refusals

@@ -7,9 +7,8 @@ use Rattle.conic.specs.Form.{Δ}
 use Rattle.conic.specs.Sizes.{InLimit}
 use Rattle.conic.specs.declared.conic.Conic.{Conic}
 use Rattle.row_reader.specs.Grammar.{SixNumbers}
-use Rattle.row.specs.Row.{row_of, buffer_limit, no_row, written, RowPromise}
+use Rattle.row.specs.Row.{row_of, buffer_limit, no_row, Written, written, RowPromise}
 use Rattle.row.specs.Writing.{row_text}
-use Rattle.row.specs.declared.Written.{Written}
 
 -- why a number is given
 pub data BufferCause (buffer : List ℕ) : ℕ → Type 0 where

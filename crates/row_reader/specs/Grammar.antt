@@ -1,8 +1,7 @@
 -- A text row in the paper's own words: six numbers, one space between, nothing else; each an optional "-" and one to
 -- six digits. Leading zeros are digits like others, and "-0" is 0. As statements: such texts are read, and no others.
 -- Assumes nothing.
-use Rattle.std.specs.Prelude.{List, [], ◌∷◌, ◌++◌, ◌↔◌, ◌≡◌, ℕ, ◌+◌, ◌*◌, ◌≤◌, ℤ, pos, neg_ℤ, length}
-use Rattle.std.proofs.Math.Option.{some, none}
+use Rattle.std.specs.Prelude.{List, [], ◌∷◌, ◌++◌, ◌↔◌, ◌≡◌, ℕ, ◌+◌, ◌*◌, ◌≤◌, ℤ, pos, neg_ℤ, length, Some, None}
 use Rattle.conic.specs.declared.conic.Conic.{Conic}
 use Rattle.row_reader.specs.Reading.{space, minus, digit_zero, read_row}
 
@@ -34,8 +33,8 @@ SixNumbers text h = Numbers text (h.a ∷ h.b ∷ h.c ∷ h.d ∷ h.e ∷ h.f �
 
 -- a text is read as a conic exactly if it is six numbers that make the conic
 unfoldable pub ReadGivesExactly : Type 0
-ReadGivesExactly = (text : List ℕ) (h : Conic) → read_row text ≡ some h ↔ SixNumbers text h
+ReadGivesExactly = (text : List ℕ) (h : Conic) → read_row text ≡ Some h ↔ SixNumbers text h
 
 -- and as no row exactly if it is six numbers of no conic
 unfoldable pub ReadRefusesExactly : Type 0
-ReadRefusesExactly = (text : List ℕ) → read_row text ≡ none ↔ ((h : Conic) → ¬ SixNumbers text h)
+ReadRefusesExactly = (text : List ℕ) → read_row text ≡ None ↔ ((h : Conic) → ¬ SixNumbers text h)

@@ -1,4 +1,3 @@
 pub mod Reading
 pub mod Grammar
-pub mod Steps
 pub mod Theorems

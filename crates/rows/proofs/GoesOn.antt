@@ -1,17 +1,16 @@
--- What a caller of `feed` goes by: with room for a row something is taken, never more than the piece has, and what was written lies
--- within the buffer. Assumes nothing.
+-- What a caller of `feed` goes by: with room for a row something is taken, never more than the piece has, and what was
+-- written lies within the buffer. Assumes nothing.
 use mathlib.Core.Bool.{Bool, true, false, cond}
-use mathlib.Core.List.{List, [], ◌∷◌, ◌++◌}
-use mathlib.Core.Path.{◌≡◌, ap, sym, ◌∙◌}
+use mathlib.Core.List.{List, [], ◌∷◌}
+use mathlib.Core.Path.{ap, ◌∙◌}
 use Prim.Native.Nat.{ℕ, suc, ◌-◌, ◌≤◌, ◌<◌}
 use native.Mathlib.Omega.{arith}
 use borrow.Author.Tests.{le-ltb}
 use lib.Dec.{eqb, ltb}
 use lib.ListN.{length, drop, length-append}
-use Rattle.row.specs.Row.{row_of, buffer_limit, too_short, row_length, no_row}
+use Rattle.row.specs.Row.{row_of, buffer_limit}
 use Rattle.row.specs.Writing.{line_feed}
-use Rattle.row.specs.declared.Written.{Written}
-use Rattle.rows.specs.Cutter.{keep, emptied, held_text, Feeding, stopped, after, feed_of, finish_of, FeedPromise, FinishPromise}
+use Rattle.rows.specs.Cutter.{keep, emptied, held_text, Feeding, stopped, after, feed_of, FeedPromise}
 use Rattle.rows.specs.Whole.{FeedingGoesOn}
 use Rattle.rows.specs.declared.Cutter.{Cutter}
 use Rattle.rows.specs.declared.Fed.{Fed}
@@ -61,7 +60,9 @@ pub record Within (piece : List ℕ) (r : Fed) (left : List ℕ) : Type 0 where
   pub taken : r.taken ≤ length piece
   pub written : r.written ≤ length left
 
-pub fed_within : (c : Cutter) (piece before : List ℕ) (r : Fed) (left : List ℕ) → FeedPromise c piece before r left → Within piece r left
+pub fed_within :
+    (c : Cutter) (piece before : List ℕ) (r : Fed) (left : List ℕ) → FeedPromise c piece before r left →
+    Within piece r left
 fed_within c piece before r left p =
     let output = (feed_of c piece (length before)).output in
     record {
@@ -74,19 +75,3 @@ pub fed_something :
     buffer_limit ≤ length before → 0 < r.taken
 unfolding FeedingGoesOn
 fed_something c piece before r left p h room = omega (arith, p.taken, feeding_goes_on c piece (length before) h room)
-
-pub finished_within :
-    (c : Cutter) (before : List ℕ) (r : Written) (left : List ℕ) (n : ℕ) → FinishPromise c before r left → r ≡ Written.Length n →
-    n ≤ length left
-finished_within c before r left n p e = go (too_short before) (sym (ap Rattle.row.specs.Row.written e) ∙ p.answer) p.buffer
-  where
-    output : List ℕ
-    output = finish_of c
-
-    go :
-        (short : Bool) → row_length n ≡ cond short (no_row 11) (row_length (length output)) →
-        left ≡ cond short before (output ++ drop (length output) before) → n ≤ length left
-    go true a b = let z : ◌≡◌ {A = ℕ} 0 1 = cc in absurd (omega arith)
-    go false a b =
-        let size : n ≡ length output = cc in
-        omega (arith, size, ap length b ∙ length-append output (drop (length output) before))

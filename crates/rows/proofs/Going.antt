@@ -1,7 +1,8 @@
--- What holds before each byte of a piece that is fed: what the code has so far, followed by what the definition makes of the rest, is
--- what the definition makes of the whole. A byte that is kept, a row that is answered and a stop each carry it on. Assumes nothing.
+-- What holds before each byte of a piece that is fed: what the code has so far, followed by what the definition makes
+-- of the rest, is what the definition makes of the whole. A byte that is kept, a row that is answered and a stop each
+-- carry it on. Assumes nothing.
 use mathlib.Core.List.{List, [], ◌∷◌, ◌++◌, append_assoc, append-nil}
-use mathlib.Core.Path.{◌≡◌, refl, ap, ap₂, sym, ◌∙◌}
+use mathlib.Core.Path.{◌≡◌, refl, ap, ap₂, sym, ◌∙◌, subst}
 use Prim.Native.Nat.{ℕ, ◌+◌, ◌-◌, ◌≤◌, ◌<◌}
 use native.Mathlib.Nat.{zero-add, add-zero, sub-zero}
 use native.Mathlib.Numerals.{add-one}
@@ -144,11 +145,13 @@ module _ (c : Cutter) (piece before : List ℕ) (current : Cutter) (taken writte
 
   pub ends :
       Going c piece before current taken written left → length piece ≤ taken →
-      FeedPromise c piece before (record { cutter = current; taken = taken; written = written }) left
+      FeedPromise c piece before (record { cutter = current; taken = length piece; written = written }) left
   unfolding feed_of
   ends g h =
-      stopped_here g
-      (ap (λ (bytes : List ℕ). feed_of current bytes (length before - written)) (drop_of_length-le piece h))
+      let all : taken ≡ length piece = omega (arith, g.taken_within) in
+      subst (λ (n : ℕ). FeedPromise c piece before (record { cutter = current; taken = n; written = written }) left) all
+      (stopped_here g
+      (ap (λ (bytes : List ℕ). feed_of current bytes (length before - written)) (drop_of_length-le piece h)))
 
   pub stops :
       Going c piece before current taken written left → taken < length piece → get_or piece taken 0 ≡ line_feed → (next : List ℕ) →

@@ -1,5 +1,5 @@
--- The bytes that a cutter holds: as many as its row has, at most 48; and the last row's answer, which is nothing where none is held.
--- Assumes nothing.
+-- The bytes that a cutter holds: as many as its row has, at most 48; and the last row's answer, which is nothing where
+-- none is held. Assumes nothing.
 use mathlib.Core.List.{List, [], ◌∷◌, append-nil}
 use mathlib.Core.Path.{◌≡◌}
 use Prim.Native.Nat.{ℕ, ◌≤◌, ◌<◌, min}
@@ -8,8 +8,8 @@ use borrow.Author.Tests.{lt-ltb, le-ltb}
 use lib.ListN.{length, take, length-take}
 use Rattle.std.proofs.lemmas.List.{take_min}
 use Rattle.point.specs.declared.paper.Refusal.TheVariants as Refusal
-use Rattle.row.specs.Row.{row_of, buffer_limit, too_short, RowPromise}
-use Rattle.row.specs.declared.Written.{Written}
+use Rattle.std.specs.Prelude.{Ok, Err}
+use Rattle.row.specs.Row.{row_of, buffer_limit, too_short, RowPromise, Written}
 use Rattle.rows.specs.Cutter.{holding, held_text, finish_of, FinishPromise}
 use Rattle.rows.specs.Input.{answers, last_row}
 use Rattle.rows.specs.declared.Cutter.{Cutter}
@@ -29,14 +29,14 @@ last_row_answered (b ∷ text) h = append-nil (row_of (b ∷ text))
 
 -- ---- the last row
 
-pub finish_refused : (c : Cutter) (before : List ℕ) → length before < buffer_limit → FinishPromise c before (Written.Refused Refusal.Buffer) before
+pub finish_refused : (c : Cutter) (before : List ℕ) → length before < buffer_limit → FinishPromise c before (Err Refusal.Buffer) before
 unfolding too_short
 finish_refused c before h = record {
   answer = simp (lt-ltb _ _ h);
   buffer = simp (lt-ltb _ _ h);
 }
 
-pub finish_nothing : (c : Cutter) (before : List ℕ) → buffer_limit ≤ length before → c.length ≡ 0 → FinishPromise c before (Written.Length 0) before
+pub finish_nothing : (c : Cutter) (before : List ℕ) → buffer_limit ≤ length before → c.length ≡ 0 → FinishPromise c before (Ok 0) before
 unfolding too_short finish_of held_text last_row answers
 finish_nothing c before h e = record {
   answer = simp (le-ltb _ _ h, e);

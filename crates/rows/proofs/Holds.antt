@@ -1,5 +1,5 @@
--- A cutter holds the first 48 bytes of its row, and that is enough: a row of more than 47 bytes is refused whatever its bytes, and a
--- row is empty only if nothing is held. Assumes nothing.
+-- A cutter holds the first 48 bytes of its row, and that is enough: a row of more than 47 bytes is refused whatever its
+-- bytes, and a row is empty only if nothing is held. Assumes nothing.
 use mathlib.Core.Bool.{Bool, true, false, cond}
 use mathlib.Core.List.{List, [], ◌∷◌, ◌++◌}
 use mathlib.Core.Path.{◌≡◌, refl, ap, sym, ◌∙◌}

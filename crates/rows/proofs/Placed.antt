@@ -1,5 +1,5 @@
--- A row put into a buffer from a place on, the bytes after it as they were: the bytes up to its end, those after it, and the length;
--- and that this is what a row call on the rest of the buffer comes to. Assumes nothing.
+-- A row put into a buffer from a place on, the bytes after it as they were: the bytes up to its end, those after it,
+-- and the length; and that this is what a row call on the rest of the buffer comes to. Assumes nothing.
 use mathlib.Core.Bool.{Bool, true, false, cond}
 use mathlib.Core.List.{List, ◌++◌, append_assoc, append-nil}
 use mathlib.Core.Path.{◌≡◌, refl, ap, ap₂, sym, ◌∙◌, subst₂}
@@ -10,8 +10,8 @@ use borrow.Rule.Slice.PartMut.{mid_of, put_mid, Post-is}
 use lib.ListN.{length, take, drop, length-append, length-drop, take-append-drop}
 use lib.Seq.{drop-drop, drop_at, drop-length, take_at, take_all, length-take-le}
 use Rattle.point.specs.declared.paper.Refusal.{Refusal}
-use Rattle.row.specs.Row.{row_of, buffer_limit, too_short, row_length, no_row, RowPromise}
-use Rattle.row.specs.declared.Written.{Written}
+use Rattle.std.specs.Prelude.{Ok, Err}
+use Rattle.row.specs.Row.{row_of, buffer_limit, too_short, row_length, no_row, RowPromise, Written}
 
 -- n bytes of a row from the place w on
 pub placed : List ℕ → List ℕ → ℕ → ℕ → List ℕ
@@ -63,7 +63,7 @@ module _ (left : List ℕ) (w : ℕ) (here : w ≤ length left) where
       ∙ ap (λ (rest : List ℕ). take w left ++ rest) (append-nil part)
 
   wrote_row :
-      (text part : List ℕ) (n : ℕ) → RowPromise text (drop w left) (Written.Length n) part → length part ≡ length (drop w left) →
+      (text part : List ℕ) (n : ℕ) → RowPromise text (drop w left) (Ok n) part → length part ≡ length (drop w left) →
       RowPlaced text left w n (take w left ++ part)
   unfolding too_short placed
   wrote_row text part n p l = go (too_short (drop w left)) refl p.answer p.buffer
@@ -86,12 +86,12 @@ module _ (left : List ℕ) (w : ℕ) (here : w ≤ length left) where
           }
 
   wrote_nothing :
-      (text part : List ℕ) (r : Refusal) → RowPromise text (drop w left) (Written.Refused r) part → NoRoom left w (take w left ++ part)
+      (text part : List ℕ) (r : Refusal) → RowPromise text (drop w left) (Err r) part → NoRoom left w (take w left ++ part)
   unfolding too_short
   wrote_nothing text part r p = go (too_short (drop w left)) refl p.answer p.buffer
     where
       go :
-          (t : Bool) → too_short (drop w left) ≡ t → Rattle.row.specs.Row.written (Written.Refused r) ≡ cond t (no_row 11) (row_length (length (row_of text))) →
+          (t : Bool) → too_short (drop w left) ≡ t → Rattle.row.specs.Row.written (Err r) ≡ cond t (no_row 11) (row_length (length (row_of text))) →
           part ≡ cond t (drop w left) (row_of text ++ drop (length (row_of text)) (drop w left)) → NoRoom left w (take w left ++ part)
       go true e a b = record {
         room = omega (arith, ltb-true (length (drop w left)) buffer_limit e, length-drop w left);
@@ -101,7 +101,7 @@ module _ (left : List ℕ) (w : ℕ) (here : w ≤ length left) where
 
   -- as the code lends the rest of the buffer and takes it back
   pub row_call :
-      (text part : List ℕ) (r : Written) (n : ℕ) → r ≡ Written.Length n → RowPromise text (mid_of w (length left - w) left) r part →
+      (text part : List ℕ) (r : Written) (n : ℕ) → r ≡ Ok n → RowPromise text (mid_of w (length left - w) left) r part →
       length part ≡ length (mid_of w (length left - w) left) → RowPlaced text left w n (put_mid w (length left - w) left part)
   row_call text part r n e p l =
       rw put_is
@@ -110,7 +110,7 @@ module _ (left : List ℕ) (w : ℕ) (here : w ≤ length left) where
       (l ∙ ap length rest_is))
 
   pub no_room_call :
-      (text part : List ℕ) (r : Written) (refusal : Refusal) → r ≡ Written.Refused refusal →
+      (text part : List ℕ) (r : Written) (refusal : Refusal) → r ≡ Err refusal →
       RowPromise text (mid_of w (length left - w) left) r part → NoRoom left w (put_mid w (length left - w) left part)
   no_room_call text part r refusal e p =
       rw put_is

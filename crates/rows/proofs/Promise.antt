@@ -1,10 +1,10 @@
--- The promises of feeding and finishing determine their answers and the buffers: each part of a promise says what the answer's part is,
--- and what finishing wrote is told as a row's is. Assumes nothing.
+-- The promises of feeding and finishing determine their answers and the buffers: each part of a promise says what the
+-- answer's part is, and what finishing wrote is told as a row's is. Assumes nothing.
 use mathlib.Core.List.{List}
 use mathlib.Core.Path.{◌≡◌, sym, ◌∙◌}
 use Prim.Native.Nat.{ℕ}
-use Rattle.row.specs.declared.Written.{Written}
 use Rattle.row.proofs.Promise.{same_written}
+use Rattle.row.specs.Row.{Written}
 use Rattle.rows.specs.Cutter.{FeedPromise, FinishPromise}
 use Rattle.rows.specs.declared.Cutter.{Cutter}
 use Rattle.rows.specs.declared.Fed.{Fed}

@@ -1,5 +1,5 @@
--- What a cutter makes of the rest of an input with all the room it wants: a feed is a part of it, whatever the room, so a run of feeds
--- followed by the rest is the whole. Assumes nothing.
+-- What a cutter makes of the rest of an input with all the room it wants: a feed is a part of it, whatever the room, so
+-- a run of feeds followed by the rest is the whole. Assumes nothing.
 use mathlib.Core.Bool.{Bool, true, false, cond}
 use mathlib.Core.List.{List, [], ◌∷◌, ◌++◌, append_assoc}
 use mathlib.Core.Path.{◌≡◌, refl, ap, sym, ◌∙◌}

@@ -1,11 +1,13 @@
--- However an input is cut into pieces, the output is that of its rows: a run and the rest are the whole, and what a cutter makes of a
--- rest are the answers to the rest's rows, the first with the held row in front. Assumes nothing.
+-- However an input is cut into pieces, the output is that of its rows: a run and the rest are the whole, and what a
+-- cutter makes of a rest are the answers to the rest's rows, the first with the held row in front. Assumes nothing.
 use mathlib.Core.Bool.{Bool, true, false, cond}
 use mathlib.Core.List.{List, [], ◌∷◌, ◌++◌, append-nil, append_assoc}
-use mathlib.Core.Path.{◌≡◌, refl, ap, ap₂, sym, ◌∙◌}
+use mathlib.Core.Path.{◌≡◌, refl, ap, ap₂, sym, ◌∙◌, subst}
 use Prim.Native.Nat.{ℕ}
 use lib.Dec.{eqb}
-use Rattle.row_reader.specs.Reading.{in_front, parts_at}
+use Rattle.std.specs.List.{onto_first}
+use Rattle.row_reader.specs.Reading.{parts_at}
+use Rattle.row_reader.proofs.Cutting.{split}
 use Rattle.row.specs.Row.{row_of}
 use Rattle.row.specs.Writing.{line_feed}
 use Rattle.rows.specs.Cutter.{new_cutter, keep, emptied, held_text, finish_of}
@@ -16,27 +18,18 @@ use Rattle.rows.proofs.Holds.{Holds, holds_nothing, holds_kept, same_row, same_l
 use Rattle.rows.proofs.Rest.{rest_of, run_and_rest}
 
 -- there is always a part
-some_front : (P : List (List ℕ) → Type 0) → ((part : List ℕ) (parts : List (List ℕ)) → P (part ∷ parts)) → (b : ℕ) (parts : List (List ℕ)) → P (in_front b parts)
-unfolding in_front
-some_front P f b [] = f (b ∷ []) []
-some_front P f b (part ∷ parts) = f (b ∷ part) parts
-
-some_part : (P : List (List ℕ) → Type 0) → ((part : List ℕ) (parts : List (List ℕ)) → P (part ∷ parts)) → (bytes : List ℕ) → P (parts_at line_feed bytes)
-unfolding parts_at
-some_part P f [] = f [] []
-some_part P f (b ∷ bytes) = go (eqb b line_feed)
-  where
-    go : (t : Bool) → P (cond t ([] ∷ parts_at line_feed bytes) (in_front b (parts_at line_feed bytes)))
-    go true = f [] (parts_at line_feed bytes)
-    go false = some_front P f b (parts_at line_feed bytes)
+some_part :
+    (P : List (List ℕ) → Type 0) → ((part : List ℕ) (parts : List (List ℕ)) → P (part ∷ parts)) → (bytes : List ℕ) →
+    P (parts_at line_feed bytes)
+some_part P f bytes = let cut = split line_feed bytes in subst P (sym cut.is) (f cut.part cut.parts)
 
 -- a text in front of the first part
 joined : List ℕ → List (List ℕ) → List (List ℕ)
 joined text [] = text ∷ []
 joined text (part ∷ parts) = (text ++ part) ∷ parts
 
-joined_byte : (text : List ℕ) (b : ℕ) (parts : List (List ℕ)) → joined (text ++ b ∷ []) parts ≡ joined text (in_front b parts)
-unfolding joined in_front
+joined_byte : (text : List ℕ) (b : ℕ) (parts : List (List ℕ)) → joined (text ++ b ∷ []) parts ≡ joined text (onto_first b parts)
+unfolding joined
 joined_byte text b [] = refl
 joined_byte text b (part ∷ parts) = ap (λ (first : List ℕ). first ∷ parts) (append_assoc text (b ∷ []) part)
 
@@ -65,7 +58,7 @@ byte_answered c text b bytes h row byte = go (eqb b line_feed)
     go :
         (line : Bool) →
         cond line (row_of (held_text c) ++ rest_of (emptied c) bytes) (rest_of (keep c b) bytes)
-        ≡ answers (counted (joined text (cond line ([] ∷ parts_at line_feed bytes) (in_front b (parts_at line_feed bytes)))))
+        ≡ answers (counted (joined text (cond line ([] ∷ parts_at line_feed bytes) (onto_first b (parts_at line_feed bytes)))))
     go true =
         ap₂ (λ (x y : List ℕ). x ++ y) (same_row c text h)
         (row ∙ ap (λ (parts : List (List ℕ)). answers (counted parts)) (joined_nothing bytes))

@@ -1,10 +1,9 @@
--- The row cutter, byte by byte: a byte is kept, a line feed has the kept row answered. It stops before a row for which fewer than 40
--- bytes of room are left. It keeps no more than 48 bytes, and every cutter has a meaning, also one that counts more than it holds: its
--- row is then all that it holds. Assumes nothing.
+-- The row cutter, byte by byte: a byte is kept, a line feed has the kept row answered. It stops before a row for which
+-- fewer than 40 bytes of room are left. It keeps no more than 48 bytes, and every cutter has a meaning, also one that
+-- counts more than it holds: its row is then all that it holds. Assumes nothing.
 use Rattle.std.specs.Prelude.{cond, List, [], ◌∷◌, ◌++◌, ◌≡◌, ℕ, ◌+◌, ◌-◌, eqb, ltb, length, take, drop, set, replicate}
-use Rattle.row.specs.Row.{row_of, buffer_limit, too_short, written, row_length, no_row}
+use Rattle.row.specs.Row.{row_of, buffer_limit, too_short, written, row_length, no_row, Written}
 use Rattle.row.specs.Writing.{line_feed}
-use Rattle.row.specs.declared.Written.{Written}
 use Rattle.rows.specs.Input.{answers, last_row}
 use Rattle.rows.specs.declared.Cutter.{Cutter}
 use Rattle.rows.specs.declared.Fed.{Fed}

@@ -1,5 +1,5 @@
--- The answer to a whole input: its rows, cut at line feeds (a last row without one counts if not empty), each answered by its row,
--- one after another. Assumes nothing.
+-- The answer to a whole input: its rows, cut at line feeds (a last row without one counts if not empty), each answered
+-- by its row, one after another. Assumes nothing.
 use Rattle.std.specs.Prelude.{List, [], ◌∷◌, ◌++◌, ℕ}
 use Rattle.row_reader.specs.Reading.{parts_at}
 use Rattle.row.specs.Row.{row_of}

@@ -2,8 +2,7 @@
 -- nothing: where room runs out it stops, and says how much it took. Assumes nothing.
 use Rattle.std.specs.Prelude.{List, ◌↔◌, ◌≡◌, ℕ}
 use Rattle.row.specs.Refusals.{BufferCause}
-use Rattle.row.specs.Row.{no_row, written}
-use Rattle.row.specs.declared.Written.{Written}
+use Rattle.row.specs.Row.{no_row, written, Written}
 use Rattle.rows.specs.Cutter.{FinishPromise}
 use Rattle.rows.specs.declared.Cutter.{Cutter}
 

@@ -1,22 +1,24 @@
 // Input of any length, cut into rows at line feeds and answered row by row.
 #![tactic(auto)]
 
-ghost use Rattle.std.specs.Prelude.{◌≡◌, min};
+ghost use Rattle.std.specs.Prelude.{◌≡◌};
 ghost use Rattle.row.specs.Row.{RowPromise};
-ghost use Rattle.rows.specs.Cutter.{holding, new_cutter, keep, emptied, held_text, FeedPromise, FinishPromise};
+ghost use Rattle.rows.specs.Cutter.{new_cutter, keep, held_text, FeedPromise, FinishPromise};
 
 use point::paper::Refusal;
-use row::{BUFFER_LIMIT, Written};
+use row::BUFFER_LIMIT;
 
-// How much of a row is held: a right row has at most 47 bytes, so the first 48 of a longer one tell it from a right one.
+// How much of a row is held: a right row has at most 47 bytes, so the first 48 of a longer one tell it from a right
+// one.
 const HOLDING: usize = 48;
 
 const LINE_FEED: u8 = b'\n';
 
-// A row in the making: its first bytes, and how many of them there are.
+// A row in the making: its first bytes, and how many of them there are. It has no invariant, since `FeedPromise` and
+// `FinishPromise` give every cutter a meaning, also one that counts more than it holds.
 #[derive(Clone, Copy)]
 pub struct Cutter {
-    pub held: [u8; 48],
+    pub held: [u8; HOLDING],
     pub length: usize,
 }
 
@@ -34,89 +36,67 @@ impl Cutter {
         ensures { result ≡ new_cutter }
     {
         Cutter {
-            held: [0; 48],
+            held: [0; HOLDING],
             length: 0,
         }
     }
 
     // One byte more of the row.
-    fn keep(self, b: u8) -> Cutter
-        ensures { result ≡ keep self b }
+    #[tactic(auto, unfolding(crate::specs::Cutter::keep))]
+    fn keep(&mut self, b: u8)
+        ensures { self.new ≡ keep self.old b }
     {
-        let length = self.length;
-        if HOLDING <= length {
-            return self;
+        if self.length < HOLDING {
+            self.held[self.length] = b;
+            self.length += 1;
         }
-        let mut next = self;
-        next.held[length] = b;
-        next.length = length + 1;
-        next
     }
 
-    // Before the first byte of the next row.
-    fn emptied(self) -> Cutter
-        ensures { result ≡ emptied self }
+    // The row that answers what is held.
+    fn answer(&self, out: &mut [u8]) -> Result<usize, Refusal>
+        ensures { RowPromise (held_text self.now) out.old result out.new }
     {
-        let mut next = self;
-        next.length = 0;
-        next
-    }
-
-    // How many of the held bytes are the row's.
-    fn size(self) -> usize
-        ensures { result ≡ min self.length holding }
-    {
-        let length = self.length;
-        if length < HOLDING { length } else { HOLDING }
+        row::row(&self.held[..self.length.min(HOLDING)], out)
     }
 }
 
-// The row that answers what is held.
-fn answer(cutter: Cutter, out: &mut [u8]) -> Written
-    ensures { RowPromise (held_text cutter) out.old result out.new }
-{
-    let held = cutter.held;
-    let size = cutter.size();
-    row::row(&held[..size], out)
-}
-
-// The answers to the rows that end in a piece, as far as the buffer has room for whole rows: one step for each byte of the piece, and
-// what a row costs for each line feed.
-pub fn feed(cutter: Cutter, piece: &[u8], out: &mut [u8]) -> Fed
+// The answers to the rows that end in a piece, as far as the buffer has room for whole rows: one step for each byte of
+// the piece, and what a row costs for each line feed.
+pub fn feed(mut cutter: Cutter, piece: &[u8], out: &mut [u8]) -> Fed
     ensures { FeedPromise cutter piece.now out.old result out.new }
 {
-    let mut current = cutter;
-    let mut taken = 0;
     let mut written = 0;
-    while taken < piece.len() {
-        let b = piece[taken];
+    for (taken, &b) in piece.iter().enumerate() {
         if b == LINE_FEED {
-            let Written::Length(n) = answer(current, &mut out[written..]) else {
-                break;
+            let Ok(n) = cutter.answer(&mut out[written..]) else {
+                return Fed {
+                    cutter,
+                    taken,
+                    written,
+                };
             };
             written += n;
-            current = current.emptied();
+            cutter.length = 0;
         } else {
-            current = current.keep(b);
+            cutter.keep(b);
         }
-        taken += 1;
     }
     Fed {
-        cutter: current,
-        taken,
+        cutter,
+        taken: piece.len(),
         written,
     }
 }
 
 // The answer to a last row without a line feed, nothing if it is empty: what a row costs.
-pub fn finish(cutter: Cutter, out: &mut [u8]) -> Written
+pub fn finish(cutter: Cutter, out: &mut [u8]) -> Result<usize, Refusal>
     ensures { FinishPromise cutter out.old result out.new }
 {
     if out.len() < BUFFER_LIMIT {
-        return Written::Refused(Refusal::Buffer);
+        return Err(Refusal::Buffer);
     }
     if cutter.length == 0 {
-        return Written::Length(0);
+        return Ok(0);
     }
-    answer(cutter, out)
+    cutter.answer(out)
 }

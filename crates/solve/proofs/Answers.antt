@@ -14,8 +14,10 @@ use Rattle.number.specs.Divides.{◌∣ℤ◌}
 use Rattle.number.proofs.Divides.{∣ℤ_times_right, divisor_size_bound}
 use Rattle.number.proofs.Least.{T-of-true, not_true_of_false}
 use Rattle.number.proofs.Prime.{prime_divides_product}
+use Rattle.std.specs.Prelude.{Result, Ok, Err}
 use Rattle.legendre.specs.Outcome.{outcome_of}
-use Rattle.legendre.specs.declared.outcome.Outcome.{Outcome}
+use Rattle.legendre.specs.declared.outcome.Reason.{Reason}
+use Rattle.legendre.specs.declared.outcome.Triple.{Triple}
 use Rattle.point.specs.Paper.{Verdict, point, none_by_sign, none_by_prime, refusal, point_limit, point_in_limit, is_zero}
 use Rattle.point.specs.Sizes.{PointWithin}
 use Rattle.point.specs.declared.Point.{Point}
@@ -55,11 +57,11 @@ no_refusal : (h : Conic) → is_refusal (solve_non_degenerate h) ≡ false
 unfolding solve_non_degenerate solve_levelled outcome_carried
 no_refusal h = by (is_square_number (neg_ℤ (D h))) (outcome_of (level_of h).p (level_of h).g (level_of h).q)
   where
-    by : (square : Bool) (o : Outcome) → is_refusal (cond square (point (from_infinity h)) (outcome_carried h o)) ≡ false
+    by : (square : Bool) (o : Result Triple Reason) → is_refusal (cond square (point (from_infinity h)) (outcome_carried h o)) ≡ false
     by true o = refl
-    by false Outcome.Sign = refl
-    by false (Outcome.Prime l) = refl
-    by false (Outcome.Solution m) = refl
+    by false (Ok m) = refl
+    by false (Err Reason.Sign) = refl
+    by false (Err (Reason.Prime l)) = refl
 
 -- a refusal in range
 pub refused : (h : Conic) → in_range h ≡ true → is_refusal (solve_of h) ≡ true → Δ h ≡ pos 0

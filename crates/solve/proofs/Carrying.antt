@@ -15,28 +15,22 @@ use Rattle.conic.specs.Sizes.{InLimit, ConicAlong}
 use Rattle.conic.specs.declared.conic.Conic.{Conic}
 use Rattle.solve.specs.Level.{level_of}
 use Rattle.solve.specs.Solve.{first_line, second_line, third_line, start_at_infinity, trial_line}
-use Rattle.solve.specs.Sizes.{CanLevel, CarriedFrom}
+use Rattle.solve.specs.Sizes.{Carries}
 use Rattle.solve.proofs.Levelling.{Levellable, level_unique, levelled_by_own, g_positive}
 use Rattle.solve.proofs.Sizes.{primed_within}
 use Rattle.solve.proofs.Infinity.{start_within}
 
-pub can_level : {h : Conic} → InLimit h → Levellable h → CanLevel h
-can_level i ok = record { conic = i; D-not-zero = ok.D-not-zero }
-
-pub carried_from :
+pub carries :
     {h : Conic} (m : Triple) → InLimit h → Levellable h → BoxSolution (level_of h).p (level_of h).g (level_of h).q m.x m.y m.w →
-    CarriedFrom h (level_of h) m
-carried_from {h} m i ok box =
+    Carries (level_of h) m
+carries {h} m i ok box =
     let own = levelled_by_own ok in
-    subst (λ v. CarriedFrom h v m) (sym (level_unique own))
+    subst (λ v. Carries v m) (sym (level_unique own))
     (record {
-      conic = i;
-      carries = record {
-        s_positive = pos-< own.s_positive;
-        t_positive = pos-< own.t_positive;
-        g_positive = g_positive own;
-        primed_within = primed_within own i box;
-      };
+      s_positive = pos-< own.s_positive;
+      t_positive = pos-< own.t_positive;
+      g_positive = g_positive own;
+      primed_within = primed_within own i box;
     })
 
 line_within : (a b : Bool) → LineWithin (cond a (cond b third_line second_line) first_line)

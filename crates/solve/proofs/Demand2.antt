@@ -8,12 +8,13 @@ use lib.IntN.{ℤ, pos, negsuc, neg_ℤ, *ℤ-zero, ◌*ℤ◌}
 use lib.Signed.{◌<ℤ◌}
 use Rattle.whole.proofs.Order.{≢-of-<ℤ}
 use Rattle.number.proofs.Least.{true_of_T, true_or_false, not_true_of_false}
+use Rattle.std.specs.Prelude.{Result, Ok, Err}
 use Rattle.legendre.specs.Answer
 use Rattle.legendre.specs.Answer.{Chosen, LeastFailing}
 use Rattle.legendre.specs.Equation.{BoxSolution}
 use Rattle.legendre.specs.Outcome.{outcome_of}
 use Rattle.legendre.specs.declared.outcome.Triple.{Triple}
-use Rattle.legendre.specs.declared.outcome.Outcome.{Outcome}
+use Rattle.legendre.specs.declared.outcome.Reason.{Reason}
 use Rattle.legendre.proofs.Answer as Legendre
 use Rattle.point.specs.Normal.{or_else, leading, normal}
 use Rattle.point.specs.Paper.{point_limit, Verdict, point, none_by_sign, none_by_prime, refusal, is_zero}
@@ -87,24 +88,24 @@ prime_or n none_by_sign = n
 prime_or n (none_by_prime l) = l
 prime_or n (refusal m) = n
 
-carried_sign : (h : Conic) (o : Outcome) → outcome_carried h o ≡ none_by_sign → o ≡ Outcome.Sign
+carried_sign : (h : Conic) (o : Result Triple Reason) → outcome_carried h o ≡ none_by_sign → o ≡ Err Reason.Sign
 unfolding outcome_carried
-carried_sign h Outcome.Sign e = refl
-carried_sign h (Outcome.Prime l) e = absurd (true≢false (sym (ap is_sign e)))
-carried_sign h (Outcome.Solution m) e = absurd (true≢false (sym (ap is_sign e)))
+carried_sign h (Ok m) e = absurd (true≢false (sym (ap is_sign e)))
+carried_sign h (Err Reason.Sign) e = refl
+carried_sign h (Err (Reason.Prime l)) e = absurd (true≢false (sym (ap is_sign e)))
 
-carried_prime : (h : Conic) (o : Outcome) {l : ℕ} → outcome_carried h o ≡ none_by_prime l → o ≡ Outcome.Prime l
+carried_prime : (h : Conic) (o : Result Triple Reason) {l : ℕ} → outcome_carried h o ≡ none_by_prime l → o ≡ Err (Reason.Prime l)
 unfolding outcome_carried
-carried_prime h Outcome.Sign e = absurd (true≢false (ap is_sign e))
-carried_prime h (Outcome.Prime l) e = ap Outcome.Prime (ap (prime_or 0) e)
-carried_prime h (Outcome.Solution m) e = absurd (true≢false (ap is_point e))
+carried_prime h (Ok m) e = absurd (true≢false (ap is_point e))
+carried_prime h (Err Reason.Sign) e = absurd (true≢false (ap is_sign e))
+carried_prime h (Err (Reason.Prime l)) e = ap (λ (l : ℕ). Err (Reason.Prime l)) (ap (prime_or 0) e)
 
-carried_point : (h : Conic) (o : Outcome) {p : Point} → outcome_carried h o ≡ point p →
-    (m : Triple) × (o ≡ Outcome.Solution m) × (p ≡ carried_back h (level_of h) m)
+carried_point : (h : Conic) (o : Result Triple Reason) {p : Point} → outcome_carried h o ≡ point p →
+    (m : Triple) × (o ≡ Ok m) × (p ≡ carried_back h (level_of h) m)
 unfolding outcome_carried
-carried_point h Outcome.Sign e = absurd (true≢false (sym (ap is_point e)))
-carried_point h (Outcome.Prime l) e = absurd (true≢false (sym (ap is_point e)))
-carried_point h (Outcome.Solution m) {p} e = (m, refl, sym (ap (point_or p) e))
+carried_point h (Ok m) {p} e = (m, refl, sym (ap (point_or p) e))
+carried_point h (Err Reason.Sign) e = absurd (true≢false (sym (ap is_point e)))
+carried_point h (Err (Reason.Prime l)) e = absurd (true≢false (sym (ap is_point e)))
 
 -- ---- the point that solve gives
 

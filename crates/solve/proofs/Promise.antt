@@ -1,27 +1,26 @@
 -- The promise of solve determines its answer, which can be told from what it stands for in the paper. Assumes nothing.
 use mathlib.Core.Path.{◌≡◌, refl, sym, ap, ◌∙◌}
+use Rattle.std.specs.Prelude.{Ok, Err}
+use Rattle.legendre.specs.declared.outcome.Reason.{Reason}
 use Rattle.point.specs.Paper.{Verdict, point, none_by_sign, none_by_prime, refusal}
 use Rattle.point.proofs.Promise.{told_apart, numbered, numbered_number}
 use Rattle.conic.specs.declared.conic.Conic.{Conic}
-use Rattle.solve.specs.Answer.{solved}
+use Rattle.solve.specs.Answer.{Solved, solved}
 use Rattle.solve.specs.Solve.{SolvePromise}
-use Rattle.solve.specs.declared.Answer.TheVariants as Answer
-use Rattle.solve.specs.declared.Reason.TheVariants as Reason
-use Rattle.solve.specs.declared.Solved.{Solved}
 
 -- ---- answers
 
 abbrev to_solved : Verdict → Solved
-to_solved (point p) = Solved.Answer (Answer.Point p)
-to_solved none_by_sign = Solved.Answer (Answer.None Reason.Sign)
-to_solved (none_by_prime l) = Solved.Answer (Answer.None (Reason.Prime l))
-to_solved (refusal n) = Solved.Refused (numbered n)
+to_solved (point p) = Ok (Ok p)
+to_solved none_by_sign = Ok (Err Reason.Sign)
+to_solved (none_by_prime l) = Ok (Err (Reason.Prime l))
+to_solved (refusal n) = Err (numbered n)
 
 solved_back : (r : Solved) → to_solved (solved r) ≡ r
-solved_back (Solved.Answer (Answer.Point p)) = refl
-solved_back (Solved.Answer (Answer.None Reason.Sign)) = refl
-solved_back (Solved.Answer (Answer.None (Reason.Prime l))) = refl
-solved_back (Solved.Refused r) = ap Solved.Refused (numbered_number r)
+solved_back (Ok (Ok p)) = refl
+solved_back (Ok (Err Reason.Sign)) = refl
+solved_back (Ok (Err (Reason.Prime l))) = refl
+solved_back (Err r) = ap Err (numbered_number r)
 
 -- ---- two answers that a promise allows are equal
 

@@ -7,12 +7,12 @@ use lib.Dec.{lit<, lit≤}
 use lib.IntN.{ℤ, pos, nat_abs, ◌*ℤ◌}
 use Rattle.whole.proofs.Size.{nat_abs-*}
 use Rattle.number.proofs.Squarefree.{squarefree_positive}
+use Rattle.std.specs.Prelude.{Ok}
 use Rattle.legendre.specs.Answer
 use Rattle.legendre.specs.Equation.{BoxSolution}
 use Rattle.legendre.specs.Outcome.{outcome_of}
 use Rattle.legendre.specs.Reach.{Reach}
 use Rattle.legendre.specs.declared.outcome.Triple.{Triple}
-use Rattle.legendre.specs.declared.outcome.Outcome.TheVariants as Outcome
 use Rattle.legendre.proofs.Answer as Legendre
 use Rattle.conic.specs.Sizes.{InLimit}
 use Rattle.conic.specs.declared.conic.Conic.{Conic}
@@ -58,7 +58,7 @@ module _ {h : Conic} (able : Levellable h) where
   level_in_reach i = in_reach (levelled_by_own able) i
 
   pub chosen_in_box :
-      (m : Triple) → outcome_of (level_of h).p (level_of h).g (level_of h).q ≡ Outcome.Solution m →
+      (m : Triple) → outcome_of (level_of h).p (level_of h).g (level_of h).q ≡ Ok m →
       BoxSolution (level_of h).p (level_of h).g (level_of h).q m.x m.y m.w
   unfolding Answer.SolutionIsChosen
   chosen_in_box m e =

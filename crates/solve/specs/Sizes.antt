@@ -1,11 +1,9 @@
 -- The sizes within which levelling and the way back are exact: of the parts of D and aΔ, and of X', Y' and W'. Assumes nothing.
-use Rattle.std.specs.Prelude.{◌≢◌, ℕ, ◌≤◌, ℤ, pos, nat_abs, ◌<ℤ◌}
+use Rattle.std.specs.Prelude.{◌≢◌, ℕ, ◌≤◌, pos, nat_abs, ◌<ℤ◌}
 use Rattle.legendre.specs.declared.outcome.Triple.{Triple}
+use Rattle.number.specs.declared.splitting.Parts.{Parts}
 use Rattle.point.specs.Normal.{largest}
 use Rattle.point.specs.declared.Point.{Point}
-use Rattle.conic.specs.Form.{D}
-use Rattle.conic.specs.Sizes.{InLimit}
-use Rattle.conic.specs.declared.conic.Conic.{Conic}
 use Rattle.solve.specs.Level.{primed}
 use Rattle.solve.specs.declared.level.Level.{Level}
 
@@ -26,23 +24,13 @@ pub record PrimedWithin (m : Point) : Type 0 where
   pub y_within : nat_abs m.y ≤ limit_Y'
   pub z_within : nat_abs m.z ≤ limit_W'
 
--- a conic and (X', Y', W')
-pub record PrimedAt (h : Conic) (m : Point) : Type 0 where
-  pub conic : InLimit h
-  pub primed_within : PrimedWithin m
-
--- a conic in limit whose D is not 0
-pub record CanLevel (h : Conic) : Type 0 where
-  pub conic : InLimit h
-  pub D-not-zero : D h ≢ pos 0
-
--- D = ds² and aΔ = et²
-pub record PartsWithin (d : ℤ) (s : ℕ) (e : ℤ) (t : ℕ) : Type 0 where
-  pub d_not_zero : d ≢ pos 0
-  pub d_within : nat_abs d ≤ largest
-  pub s_within : s ≤ largest
-  pub e_within : nat_abs e ≤ largest
-  pub t_within : t ≤ largest
+-- the parts of D = ds² and aΔ = et²
+pub record PartsWithin (d e : Parts) : Type 0 where
+  pub d_not_zero : d.free ≢ pos 0
+  pub d_within : nat_abs d.free ≤ largest
+  pub s_within : d.square ≤ largest
+  pub e_within : nat_abs e.free ≤ largest
+  pub t_within : e.square ≤ largest
 
 -- a level and a solution, where tX, stgY and sW are small
 pub record Carries (v : Level) (m : Triple) : Type 0 where
@@ -50,7 +38,3 @@ pub record Carries (v : Level) (m : Triple) : Type 0 where
   pub t_positive : pos 0 <ℤ v.t
   pub g_positive : pos 0 <ℤ v.g
   pub primed_within : PrimedWithin (primed v m)
-
-pub record CarriedFrom (h : Conic) (v : Level) (m : Triple) : Type 0 where
-  pub conic : InLimit h
-  pub carries : Carries v m

@@ -1,19 +1,19 @@
 -- Solving a conic, as the paper has it: refusals 1 and 2; where −D is a square, the point from infinity by the trial lines;
 -- otherwise the levelled equation's sign, least failing prime, or chosen solution carried back. Assumes nothing.
-use Rattle.std.specs.Prelude.{Bool, ◌&&◌, cond, ◌≡◌, ℤ, pos, neg_ℤ, nat_abs, ◌-ℤ◌, ◌*ℤ◌}
+use Rattle.std.specs.Prelude.{Bool, ◌&&◌, cond, Result, Ok, Err, ◌≡◌, ℤ, pos, neg_ℤ, nat_abs, ◌-ℤ◌, ◌*ℤ◌}
 use Rattle.std.specs.Int.Signed.{non_neg}
 use Rattle.number.specs.Square.{root_of, is_square}
 use Rattle.legendre.specs.Outcome.{outcome_of}
-use Rattle.legendre.specs.declared.outcome.Outcome.{Outcome}
+use Rattle.legendre.specs.declared.outcome.Reason.{Reason}
+use Rattle.legendre.specs.declared.outcome.Triple.{Triple}
 use Rattle.point.specs.Normal.{normal}
-use Rattle.point.specs.Paper.{Verdict, point, none_by_sign, none_by_prime, refusal, is_zero}
+use Rattle.point.specs.Paper.{Verdict, point, refusal, is_zero}
 use Rattle.point.specs.declared.Point.{Point}
 use Rattle.conic.specs.Form.{L, D, Δ, drawn}
 use Rattle.conic.specs.Base.{in_range}
 use Rattle.conic.specs.declared.conic.Conic.{Conic}
 use Rattle.solve.specs.Level.{level_of, carried_back}
-use Rattle.solve.specs.Answer.{solved}
-use Rattle.solve.specs.declared.Solved.{Solved}
+use Rattle.solve.specs.Answer.{Solved, solved, reason_given}
 
 -- n = r² for some r
 unfoldable pub is_square_number : ℤ → Bool
@@ -44,10 +44,9 @@ start_at_infinity h =
 unfoldable pub from_infinity : Conic → Point
 from_infinity h = normal (drawn h (start_at_infinity h) (trial_line h (start_at_infinity h)))
 
-unfoldable pub outcome_carried : Conic → Outcome → Verdict
-outcome_carried h Outcome.Sign = none_by_sign
-outcome_carried h (Outcome.Prime l) = none_by_prime l
-outcome_carried h (Outcome.Solution m) = point (carried_back h (level_of h) m)
+unfoldable pub outcome_carried : Conic → Result Triple Reason → Verdict
+outcome_carried h (Ok m) = point (carried_back h (level_of h) m)
+outcome_carried h (Err r) = reason_given r
 
 unfoldable pub solve_levelled : Conic → Verdict
 solve_levelled h = outcome_carried h (outcome_of (level_of h).p (level_of h).g (level_of h).q)

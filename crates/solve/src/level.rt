@@ -1,12 +1,15 @@
-// The levelled equation pX² + gY² + qW² = 0 of a conic, with D = pg·s² and aΔ = gq·t², and the way back from its solutions.
-ghost use Rattle.std.specs.Prelude.{◌≡◌};
+// The levelled equation pX² + gY² + qW² = 0 of a conic, with D = pg·s² and aΔ = gq·t², and the way back from its
+// solutions.
+ghost use Rattle.std.specs.Prelude.{◌≡◌, ◌≢◌, pos};
+ghost use Rattle.conic.specs.Form.{D};
 ghost use Rattle.solve.specs.Level.{level_from, level_of, primed, from_primed, carried_back};
-ghost use Rattle.solve.specs.Sizes.{CanLevel, PartsWithin, Carries, CarriedFrom, PrimedAt};
+ghost use Rattle.solve.specs.Sizes.{PartsWithin, Carries, PrimedWithin};
 
+use crate::Curve;
 use conic::conic::Conic;
 use legendre::outcome::Triple;
 use number::euclid::gcd;
-use number::splitting::split;
+use number::splitting::{Parts, split};
 use point::Point;
 
 #[derive(Clone, Copy)]
@@ -20,27 +23,26 @@ pub struct Level {
 
 impl Level {
     // Two splits and a greatest common divisor.
-    pub fn of(h: Conic) -> Level
-        requires { CanLevel h }
-        ensures { result ≡ level_of h }
+    pub fn of(curve: Curve) -> Level
+        requires { D curve.h ≢ pos 0 }
+        ensures { result ≡ level_of curve.h }
     {
-        let d = split(h.discriminant());
-        let e = split(h.a * h.determinant());
-        Level::from_parts(d.free, d.square, e.free, e.square)
+        let h = curve.h;
+        Level::from_parts(split(h.discriminant()), split(h.a * h.determinant()))
     }
 
-    // From D = ds² and aΔ = et²: a greatest common divisor and two divisions.
-    fn from_parts(d: i64, s: u64, e: i64, t: u64) -> Level
-        requires { PartsWithin d s e t }
-        ensures { result ≡ level_from d s e t }
+    // From the parts of D = ds² and aΔ = et²: a greatest common divisor and two divisions.
+    fn from_parts(d: Parts, e: Parts) -> Level
+        requires { PartsWithin d e }
+        ensures { result ≡ level_from d.free d.square e.free e.square }
     {
-        let g = gcd(whole::magnitude(d), whole::magnitude(e)) as i64;
+        let g = gcd(whole::magnitude(d.free), whole::magnitude(e.free)) as i64;
         Level {
-            p: d / g,
+            p: d.free / g,
             g,
-            q: e / g,
-            s: s as i64,
-            t: t as i64,
+            q: e.free / g,
+            s: d.square as i64,
+            t: e.square as i64,
         }
     }
 
@@ -58,28 +60,30 @@ impl Level {
         }
     }
 
-    // The point of the conic h, this being its level, from a solution of the equation: 33 steps and a normal form.
-    pub fn carried_back(self, h: Conic, m: Triple) -> Point
-        requires { CarriedFrom h self m }
-        ensures { result ≡ carried_back h self m }
+    // The point of the curve, this being its level, from a solution of the equation: 33 steps and a normal form.
+    pub fn carried_back(self, curve: Curve, m: Triple) -> Point
+        requires { Carries self m }
+        ensures { result ≡ carried_back curve.h self m }
     {
-        let p = from_primed(h, self.primed(m));
+        let p = curve.from_primed(self.primed(m));
         Point::normal(p.x, p.y, p.z)
     }
 }
 
-// x = 2DX' - 2bY' + bkW' - dDW', y = 4aY' - 2akW', z = 2aDW': 28 steps.
-fn from_primed(h: Conic, m: Point) -> Point
-    requires { PrimedAt h m }
-    ensures { result ≡ from_primed h m }
-{
-    let Conic { a, b, d, .. } = h;
-    let Point { x, y, z } = m;
-    let discriminant = h.discriminant();
-    let k = h.k();
-    Point {
-        x: 2 * discriminant * x - 2 * b * y + b * k * z - d * discriminant * z,
-        y: 4 * a * y - 2 * a * k * z,
-        z: 2 * a * discriminant * z,
+impl Curve {
+    // x = 2DX' - 2bY' + bkW' - dDW', y = 4aY' - 2akW', z = 2aDW': 28 steps.
+    fn from_primed(self, m: Point) -> Point
+        requires { PrimedWithin m }
+        ensures { result ≡ from_primed self.h m }
+    {
+        let Conic { a, b, d, .. } = self.h;
+        let Point { x, y, z } = m;
+        let discriminant = self.h.discriminant();
+        let k = self.h.k();
+        Point {
+            x: 2 * discriminant * x - 2 * b * y + b * k * z - d * discriminant * z,
+            y: 4 * a * y - 2 * a * k * z,
+            z: 2 * a * discriminant * z,
+        }
     }
 }

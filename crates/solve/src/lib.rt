@@ -1,76 +1,71 @@
 // Solving a conic: a point exactly if there is one, or none with its reason.
 #![tactic(auto)]
 
-ghost use Rattle.std.specs.Prelude.{◌≡◌};
+ghost use Rattle.std.specs.Prelude.{◌≡◌, IfOk, IfErr};
+ghost use Rattle.point.specs.Paper.{number};
+ghost use Rattle.conic.specs.Base.{legal, refused, conic_judged};
+ghost use Rattle.conic.specs.Sizes.{InLimit};
 ghost use Rattle.solve.specs.Demand2.{NonDegenerate, SquareDiscriminant};
 ghost use Rattle.solve.specs.Answer.{answered};
 ghost use Rattle.solve.specs.Solve.{solve_levelled, solve_non_degenerate, SolvePromise};
 
 use crate::level::Level;
+use conic::base::judge_conic;
 use conic::conic::Conic;
 use legendre::decide::outcome;
-use legendre::outcome::Outcome;
+pub use legendre::outcome::Reason;
+use point::Point;
 use point::paper::Refusal;
-use point::{Point, size};
 
 mod level;
 mod trial;
 
-// Why a conic has no point.
+// A point, or why there is none; a none has no coordinates.
+pub type Answer = Result<Point, Reason>;
+
+// A conic in range that is not degenerate.
 #[derive(Clone, Copy)]
-pub enum Reason {
-    Sign,
-    Prime(u64),
+struct Curve {
+    h: Conic,
+    ghost in_limit: { InLimit h },
+    ghost non_degenerate: { NonDegenerate h },
 }
 
-// A point, or none with its reason; a none has no coordinates.
-#[derive(Clone, Copy)]
-pub enum Answer {
-    Point(Point),
-    None(Reason),
-}
-
-#[derive(Clone, Copy)]
-pub enum Solved {
-    Answer(Answer),
-    Refused(Refusal),
-}
-
-// The levelling, the answer to the levelled equation, and for a point the way back.
-fn solve_levelled(h: Conic) -> Answer
-    requires { NonDegenerate h × (¬ SquareDiscriminant h) }
-    ensures { answered result ≡ solve_levelled h }
-{
-    let v = Level::of(h);
-    let found = outcome(v.p, v.g, v.q);
-    match found {
-        Outcome::Sign => Answer::None(Reason::Sign),
-        Outcome::Prime(prime) => Answer::None(Reason::Prime(prime)),
-        Outcome::Solution(solution) => Answer::Point(v.carried_back(h, solution)),
+impl Curve {
+    // What judging costs.
+    fn judged(h: Conic) -> Result<Curve, Refusal>
+        ensures ok { IfOk result (λ curve. (curve.h ≡ h) × (legal ≡ conic_judged h)) }
+        ensures err { IfErr result (λ r. refused (number r) ≡ conic_judged h) }
+    {
+        judge_conic(h)?;
+        Ok(Curve { h })
     }
-}
 
-// One square test, and one of the two ways.
-fn solve_non_degenerate(h: Conic) -> Answer
-    requires { NonDegenerate h }
-    ensures { answered result ≡ solve_non_degenerate h }
-{
-    if trial::has_square_discriminant(h) {
-        Answer::Point(trial::from_infinity(h))
-    } else {
-        solve_levelled(h)
+    // The levelling, the answer to the levelled equation, and for a point the way back.
+    fn answer_by_level(self) -> Answer
+        requires { ¬ SquareDiscriminant self.h }
+        ensures { answered result ≡ solve_levelled self.h }
+    {
+        let v = Level::of(self);
+        let solution = outcome(v.p, v.g, v.q)?;
+        Ok(v.carried_back(self, solution))
+    }
+
+    // One square test, and one of the two ways.
+    fn answer(self) -> Answer
+        ensures { answered result ≡ solve_non_degenerate self.h }
+    {
+        if self.has_square_discriminant() {
+            Ok(self.from_infinity())
+        } else {
+            self.answer_by_level()
+        }
     }
 }
 
 // Any six numbers: at most what levelling and the answer to the levelled equation cost.
-pub fn solve(h: Conic) -> Solved
+pub fn solve(h: Conic) -> Result<Answer, Refusal>
     ensures { SolvePromise h result }
 {
-    if !h.in_range() {
-        return Solved::Refused(Refusal::Range);
-    }
-    if size::is_zero(h.determinant()) {
-        return Solved::Refused(Refusal::Degenerate);
-    }
-    Solved::Answer(solve_non_degenerate(h))
+    Ok(Curve::judged(h)?.answer())
 }

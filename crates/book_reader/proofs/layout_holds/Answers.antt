@@ -1,27 +1,22 @@
--- `book_reader::layout_holds` meets its contract: the code's tests are the definition's, one after the other.
--- Assumes nothing.
-use mathlib.Core.Bool.{◌&&◌}
-use mathlib.Core.Path.{ap, ◌∙◌}
-use Prim.Native.Nat.{ℕ}
+-- `book_reader::layout_holds` meets its contract: each test is of a part of the layout. Assumes nothing.
+use mathlib.Core.Path.{sym, ◌∙◌}
 use native.Mathlib.Omega.{arith}
-use lib.Dec.{eqb}
-use lib.ListN.{length}
-use Rattle.book.specs.Reader.{bodies_end, every_below, entry_holds}
-use Rattle.book.proofs.Contents.{no_count, no_contents, too_many, contents_hold}
+use Rattle.book.proofs.Contents.{layout_wrong, layout_tested}
 use Rattle.book_reader.proofs.layout_holds.Goals as goal
 
 pub returns-then-book-lt2 : goal.returns-then-book-lt2
-returns-then-book-lt2 c = no_count c.args.book.now c.if-book-lt2.true
-
-pub returns-then-book-count : goal.returns-then-book-count
-returns-then-book-count c = no_contents c.args.book.now (omega arith)
+returns-then-book-lt2 c = sym (layout_wrong λ r. omega arith)
 
 pub returns-then-count-gt-COUNT_LIMIT : goal.returns-then-count-gt-COUNT_LIMIT
-returns-then-count-gt-COUNT_LIMIT c = too_many c.args.book.now (omega arith)
+returns-then-count-gt-COUNT_LIMIT c = sym (layout_wrong λ r. omega arith)
 
 pub returns : goal.returns
 returns c =
-    let book = c.args.book.now in
-    c.entries_hold.ensures
-    ∙ ap (λ (n : ℕ). every_below (entry_holds book) n && eqb (bodies_end book n) (length book)) c.two_at-count.ensures.0
-    ∙ contents_hold book (omega arith) (omega arith) (omega arith)
+    c.eq.ensures
+    ∙ layout_tested c.last_end.result c.if-book-lt2.false
+    (record {
+      count_is = c.number_at-count.ensures.0;
+      count_at_most = c.if-count-gt-COUNT_LIMIT.false;
+      room = c.if-book-count.false;
+    })
+    c.last_end.ensures.some c.last_end.ensures.none

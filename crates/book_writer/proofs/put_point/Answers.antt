@@ -10,7 +10,7 @@ use mir.Val.{to_z, of_z}
 use Rattle.whole.proofs.Signed.{sizes, fits}
 use Rattle.point.specs.Paper.{point_limit}
 use Rattle.book.specs.Bytes.{bytes, unsigned}
-use Rattle.book.proofs.LittleEndian.{length_four}
+use Rattle.book.proofs.LittleEndian.{length_bytes}
 use Rattle.book.proofs.Stores.{sets_three}
 use Rattle.book_writer.proofs.put_point.Goals as goal
 
@@ -28,7 +28,7 @@ returns c =
     let p = c.args.p in
     sets_three c.args.book.now c.put_signed.new.book c.put_signed-2.new.book c.put_signed-3.new.book c.args.at
     (bytes 4 (unsigned 4 p.x)) (bytes 4 (unsigned 4 p.y)) (bytes 4 (unsigned 4 p.z))
-    (length_four (unsigned 4 p.x)) (length_four (unsigned 4 p.y))
+    (length_bytes 4 (unsigned 4 p.x)) (length_bytes 4 (unsigned 4 p.y))
     (passed c.args.book.now c.args.at p.x c.requires.1.x_within c.put_signed.ensures)
     (passed c.put_signed.new.book (c.args.at + 4) p.y c.requires.1.y_within c.put_signed-2.ensures)
     (passed c.put_signed-2.new.book (c.args.at + 8) p.z c.requires.1.z_within c.put_signed-3.ensures)

@@ -1,45 +1,61 @@
--- `row_reader::read` meets its contract: a byte more is a step more, and at the end no step is left. Assumes nothing.
-use mathlib.Core.Path.{◌≡◌, sym, ap, ◌∙◌, subst}
-use mathlib.Core.List.{List}
-use Prim.Native.Nat.{ℕ, ◌+◌, ◌≤◌, ◌<◌, zero-le}
-use native.Mathlib.Numerals.{add-one}
-use native.Mathlib.Omega.{arith}
-use lib.ListN.{length, drop, get_or, drop_of_length-le}
-use lib.Seq.{drop-cons}
-use Rattle.row_reader.specs.Steps.{LegalReader, reader_after, reader_end, steps}
-use Rattle.row_reader.specs.declared.Reader.{Reader}
-use Rattle.row_reader.proofs.Parts.{steps_read, legal_start}
-use Rattle.row_reader.proofs.Steps.{legal_after}
+-- `row_reader::read` meets its contract: a part more is a number more, and where there is none, or the row has too few
+-- parts or too many, the whole row is none. Assumes nothing.
+use Rattle.std.proofs.Common.{◌≡◌, ◌∙◌, ap, sym, [], ℕ, rules, tests, arith, take, get_or, w64, to_z-of_z}
+use Rattle.std.specs.Prelude.{pos}
+use mir.Val.{SFits}
+use Rattle.std.proofs.lemmas.Grind.{common_steps}
+use Rattle.row_reader.proofs.Cutting.{split_gives}
+use Rattle.row_reader.proofs.Numbers.{with_parts, before_all, row_is, one_more, too_few, too_many, broken, all_six}
 use Rattle.row_reader.proofs.read.Goals as goal
 
-one_step :
-    (text : List ℕ) (r : Reader) (i : ℕ) → i < length text →
-    steps r (drop i text) ≡ steps (reader_after r (get_or text i 0)) (drop (i + 1) text)
-unfolding steps
-one_step text r i h = rw (add-one, drop-cons text i 0)
+pub loop-n-init : goal.loop-n-init
+loop-n-init c = record {
+  room_for_six = search rules;
+  numbers =
+      let d = c.split-parts.ensures.done in
+      let r = c.split-parts.ensures.rest in
+      before_all _ ∙ ap (with_parts []) (simp (d, r));
+}
 
-at_end : (text : List ℕ) (r : Reader) (i : ℕ) → length text ≤ i → steps r (drop i text) ≡ r
-unfolding steps
-at_end text r i h = rw (drop_of_length-le text h)
+pub returns-in_err-next : goal.returns-in_err-next
+returns-in_err-next c =
+    let next = split_gives _ _ _ _ c.next.ensures.steps (λ b r f k. search (rules, tests)) in
+    c.from_residual.ensures
+    ∙ too_few (take c.loop-n.n-index c.loop-n.n-items) (grind (arith, common_steps))
+    ∙ simp c.in_err-next.was at (row_is c.args.text.now _ c.next.result _ c.loop-n.invariant.numbers next)
 
-pub loop-i-init : goal.loop-i-init
-loop-i-init c = (legal_start, zero-le, steps_read c.args.text.now)
+pub returns-in_err-n : goal.returns-in_err-n
+returns-in_err-n c =
+    let next = split_gives _ _ _ _ c.next.ensures.steps (λ b r f k. search (rules, tests)) in
+    c.from_residual-in_err-n.ensures
+    ∙ broken (take c.loop-n.n-index c.loop-n.n-items) _ _ c.in_err-n.ensures
+    ∙ simp c.in_ok-next.was at (row_is c.args.text.now _ c.next.result _ c.loop-n.invariant.numbers next)
 
-pub loop-i-preserved : goal.loop-i-preserved
-loop-i-preserved c =
-    let text = c.args.text.now in
-    let reader = c.loop-i.reader in
-    let i = c.loop-i.i in (
-      subst LegalReader (sym c.step-reader.ensures) (legal_after reader (get_or text i 0) c.loop-i.invariant.0),
-      omega arith,
-      ap (λ (r : Reader). reader_end (steps r (drop (i + 1) text))) c.step-reader.ensures
-          ∙ sym (ap reader_end (one_step text reader i c.loop-i-test.true))
-          ∙ c.loop-i.invariant.2,
-    )
+pub loop-n-preserved : goal.loop-n-preserved
+loop-n-preserved c =
+    let fits : SFits w64 c.in_ok-n.field-0 = search rules in
+    let next = split_gives _ _ _ _ c.next.ensures.steps (λ b r f k. search (rules, tests)) in
+    record {
+      room_for_six = search rules;
+      numbers =
+          c.loop-n.invariant.numbers
+          ∙ ap (with_parts (take c.loop-n.n-index c.loop-n.n-items)) next
+          ∙ simp (to_z-of_z fits, c.in_ok-next.was)
+          (one_more c.loop-n.n-items c.loop-n.n-index _ _ (omega arith) c.in_ok-n.ensures);
+    }
+
+pub returns-then-is_some : goal.returns-then-is_some
+returns-then-is_some c =
+    let next = split_gives _ _ _ _ c.next-2.ensures.steps (λ b r f k. search (rules, tests)) in
+    let all : take c.loop-n.n-index c.loop-n.n-items ≡ c.loop-n.n-items = grind (arith, common_steps) in
+    too_many c.loop-n.n-items c.next-2.result _ (omega arith) (sym c.is_some.ensures ∙ c.if-is_some.true)
+    ∙ row_is c.args.text.now _ c.next-2.result _ (rw all at c.loop-n.invariant.numbers) next
 
 pub returns : goal.returns
 returns c =
-    let text = c.args.text.now in
-    c.end.ensures
-    ∙ sym (ap reader_end (at_end text c.loop-i.reader c.loop-i.i c.loop-i-test.false))
-    ∙ c.loop-i.invariant.2
+    let next = split_gives _ _ _ _ c.next-2.ensures.steps (λ b r f k. search (rules, tests)) in
+    let all : take c.loop-n.n-index c.loop-n.n-items ≡ c.loop-n.n-items = grind (arith, common_steps) in
+    let fits : (k : ℕ) → SFits w64 (get_or c.loop-n.n-items k (pos 0)) = λ k. search rules in
+    rw (to_z-of_z (fits 0), to_z-of_z (fits 1), to_z-of_z (fits 2), to_z-of_z (fits 3), to_z-of_z (fits 4), to_z-of_z (fits 5))
+    (all_six c.loop-n.n-items c.next-2.result _ c.loop-n.invariant.room_for_six (sym c.is_some.ensures ∙ c.if-is_some.false)
+    ∙ row_is c.args.text.now _ c.next-2.result _ (rw all at c.loop-n.invariant.numbers) next)

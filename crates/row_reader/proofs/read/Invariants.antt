@@ -1,15 +1,15 @@
--- What the loop of `row_reader::read` keeps: the steps over what is left, from here, give what the whole row holds. The measure is
--- what is left of the text. Assumes nothing.
-use mathlib.Core.Path.{◌≡◌}
-use Prim.Native.Nat.{◌-◌, ◌≤◌}
-use lib.ListN.{length, drop}
-use Rattle.row_reader.specs.Reading.{read_row}
-use Rattle.row_reader.specs.Steps.{LegalReader, reader_end, steps}
+-- What the loop of `row_reader::read` keeps: the numbers so far and those of the parts that are left are the row's.
+-- Assumes nothing.
+use Rattle.std.proofs.Common.{◌≡◌, length, take}
+use Rattle.row_reader.specs.Reading.{space, parts_at, read_numbers}
+use Rattle.row_reader.proofs.Cutting.{left}
+use Rattle.row_reader.proofs.Numbers.{with_parts}
 use Rattle.row_reader.proofs.read.Given as goal
 
-abbrev pub invariant-loop-i : goal.invariant-loop-i
-invariant-loop-i l =
-    LegalReader l.reader × (l.i ≤ length l.text) × (reader_end (steps l.reader (drop l.i l.text)) ≡ read_row l.text)
-
-abbrev pub decreases-loop-i : goal.decreases-loop-i
-decreases-loop-i l = length l.text - l.i
+abbrev pub invariant-loop-n : goal.invariant-loop-n
+invariant-loop-n l = record {
+  room_for_six : length l.n-items ≡ 6;
+  numbers :
+      read_numbers (parts_at space l.text) ≡
+      with_parts (take l.n-index l.n-items) (left l.parts.done l.parts.rest.now);
+}

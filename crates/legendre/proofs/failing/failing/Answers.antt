@@ -1,6 +1,7 @@
 -- `legendre::failing::failing` meets its contract: a divisor that divides what is left is the least prime left, so the
 -- first at which the number is no square is the find; and at the loop's end what is left is 1 or a prime. Assumes nothing.
-use mathlib.Core.Path.{◌≡◌, sym, ap, ◌∙◌}
+use mathlib.Core.Path.{◌≡◌, refl, sym, ap, ◌∙◌}
+use mathlib.Core.Bool.{Bool}
 use Prim.Native.Nat.{ℕ, suc}
 use native.Mathlib.Omega.{arith}
 use borrow.Author.Tests.{not-true, not-false}
@@ -8,8 +9,9 @@ use lib.IntN.{ℤ}
 use mir.Syntax.{w64}
 use mir.Val.{SFits, to_z, of_z}
 use mir.Facts.{to_z-of_z}
+use Rattle.std.specs.Bool.{then_some}
 use Rattle.legendre.specs.Search.{least_below, fails}
-use Rattle.legendre.proofs.FailingPrimes.{trial_taken, trial_next, divisor_small, divisor_prime, divisor_fails, none_left, rest_at_most, rest_prime, rest_fails, rest_holds}
+use Rattle.legendre.proofs.FailingPrimes.{trial_taken, trial_next, divisor_small, divisor_prime, divisor_fails, none_left, rest_at_most, rest_prime, rest_decides}
 use Rattle.legendre.proofs.failing.failing.Goals as goal
 
 -- the loop reads the number from its bits
@@ -57,14 +59,7 @@ no_root-requires-2 c =
       small = omega (arith, rest_at_most t c.requires.positive, c.requires.small);
     }
 
-pub returns-then-no_root-2 : goal.returns-then-no_root-2
-returns-then-no_root-2 c =
-    rest_fails c.loop-divisor.invariant c.requires.positive (omega arith) c.if-rest-eq1.false
-    (not-true _ (sym c.no_root-2.ensures ∙ c.if-no_root-2.true))
-    ∙ at_number c.args.size c.ranges.number
-
-pub returns-else-no_root-2 : goal.returns-else-no_root-2
-returns-else-no_root-2 c =
-    rest_holds c.loop-divisor.invariant c.requires.positive (omega arith) c.if-rest-eq1.false
-    (not-false _ (sym c.no_root-2.ensures ∙ c.if-no_root-2.false))
-    ∙ at_number c.args.size c.ranges.number
+pub returns : goal.returns
+returns c =
+    c.then_some.ensures ∙ ap (λ (b : Bool). then_some b c.loop-divisor.rest) c.no_root-2.ensures
+    ∙ rest_decides c.loop-divisor.invariant c.requires.positive (omega arith) c.if-rest-eq1.false _ refl ∙ at_number c.args.size c.ranges.number

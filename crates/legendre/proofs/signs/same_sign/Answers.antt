@@ -1,4 +1,4 @@
--- `legendre::signs::same_sign` meets its contract: its three ways are the three signs of the first number.
+-- `legendre::signs::same_sign` meets its contract: its ways are the three signs of the first number.
 -- Assumes nothing.
 use mathlib.Core.Path.{◌≡◌, ap, ◌∙◌}
 use mathlib.Core.Bool.{true, false}
@@ -25,4 +25,4 @@ pub returns-else-a-lt0 : goal.returns-else-a-lt0
 returns-else-a-lt0 c =
     let not_above : lt_z (pos 0) c.args.a ≡ false = tells (search (ranges, tests)) tt c.if-a-gt0.false in
     let not_below : lt_z c.args.a (pos 0) ≡ false = tells (search (ranges, tests)) tt c.if-a-lt0.false in
-    same_zero c.args.a c.args.b not_above not_below
+    c.if-a-lt0.false ∙ same_zero c.args.a c.args.b not_above not_below

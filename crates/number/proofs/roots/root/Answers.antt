@@ -5,7 +5,6 @@ use Prim.Native.Nat.{ℕ, zero, suc, ◌*◌, ◌^◌, ◌<◌}
 use native.Mathlib.Nat.{lt_of_lt_of_le, le-suc, le-div_iff_mul-le}
 use native.Mathlib.Omega.{arith}
 use lib.Pow.{pow_pos, pow_mono}
-use lib.Count.{leading_le}
 use Rattle.number.specs.Square.{root_of}
 use Rattle.number.proofs.Square.{square-≤, root_unique, root_of_square}
 use Rattle.number.proofs.Newton.{half_length, power_above, shifted_one, step_not_below}
@@ -21,9 +20,6 @@ above_zero n (suc k) h l = omega arith
 
 pub returns-then-n-eq0 : goal.returns-then-n-eq0
 returns-then-n-eq0 c = sym (ap root_of c.if-n-eq0.true ∙ root_of_square 0)
-
-pub overflow_sub-guess : goal.overflow_sub-guess
-overflow_sub-guess c = omega (arith, leading_le 64 c.args.n)
 
 pub loop-guess-init : goal.loop-guess-init
 loop-guess-init c =

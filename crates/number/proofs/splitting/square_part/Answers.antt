@@ -1,25 +1,12 @@
 -- `number::splitting::square_part` meets its contract: each turn keeps `Trial`, whether it goes to the next divisor or
 -- takes one or two out, and what is left at its end is a square or squarefree. Assumes nothing.
 use mathlib.Core.Path.{sym, ◌∙◌}
-use native.Mathlib.Nat.{mul-le-mul}
 use native.Mathlib.Omega.{arith}
-use Rattle.number.proofs.TrialDivision.{trial_start, trial_next, trial_once, trial_twice, trial_square, trial_squarefree, quotient_below, second_quotient_below, divisor_below_bound, square_times_divisor_at_most, square_times_root_at_most}
+use Rattle.number.proofs.TrialDivision.{trial_next, trial_once, trial_twice, trial_square, trial_squarefree, square_times_divisor_at_most, square_times_root_at_most}
 use Rattle.number.proofs.splitting.square_part.Goals as goal
-
-pub loop-divisor-init : goal.loop-divisor-init
-loop-divisor-init c = trial_start c.args.n
-
-pub overflow_mul-divisor : goal.overflow_mul-divisor
-overflow_mul-divisor c = omega (arith, mul-le-mul c.loop-divisor.invariant.divisor_bound c.loop-divisor.invariant.divisor_bound)
-
-pub loop-divisor-smaller-then-rest-divisor-ne0 : goal.loop-divisor-smaller-then-rest-divisor-ne0
-loop-divisor-smaller-then-rest-divisor-ne0 c = omega (arith, divisor_below_bound c.loop-divisor.invariant c.loop-divisor-test.true c.ranges.n.fits)
 
 pub loop-divisor-preserved-then-rest-divisor-ne0 : goal.loop-divisor-preserved-then-rest-divisor-ne0
 loop-divisor-preserved-then-rest-divisor-ne0 c = trial_next c.loop-divisor.invariant c.loop-divisor-test.true c.ranges.n.fits c.if-rest-divisor-ne0.true
-
-pub loop-divisor-smaller-then-quotient-divisor-ne0 : goal.loop-divisor-smaller-then-quotient-divisor-ne0
-loop-divisor-smaller-then-quotient-divisor-ne0 c = omega (arith, quotient_below c.loop-divisor.invariant c.loop-divisor-test.true)
 
 pub loop-divisor-preserved-then-quotient-divisor-ne0 : goal.loop-divisor-preserved-then-quotient-divisor-ne0
 loop-divisor-preserved-then-quotient-divisor-ne0 c = trial_once c.loop-divisor.invariant c.loop-divisor-test.true c.if-rest-divisor-ne0.false c.if-quotient-divisor-ne0.true
@@ -30,9 +17,6 @@ overflow_mul-square c =
       arith,
       square_times_divisor_at_most c.loop-divisor.invariant c.loop-divisor-test.true c.if-rest-divisor-ne0.false c.if-quotient-divisor-ne0.false,
     )
-
-pub loop-divisor-smaller : goal.loop-divisor-smaller
-loop-divisor-smaller c = omega (arith, second_quotient_below c.loop-divisor.invariant c.loop-divisor-test.true)
 
 pub loop-divisor-preserved : goal.loop-divisor-preserved
 loop-divisor-preserved c = trial_twice c.loop-divisor.invariant c.loop-divisor-test.true c.if-rest-divisor-ne0.false c.if-quotient-divisor-ne0.false

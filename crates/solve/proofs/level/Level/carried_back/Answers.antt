@@ -7,25 +7,26 @@ use Rattle.legendre.specs.declared.outcome.Triple.{Triple}
 use Rattle.point.specs.Normal.{normal_within}
 use Rattle.point.specs.declared.Point.{Point}
 use Rattle.point.proofs.Limits.{within_wider, normal_within_is_normal, normal_passed}
+use Rattle.conic.specs.Sizes.{InLimit}
 use Rattle.conic.specs.declared.conic.Conic.{Conic}
 use Rattle.solve.specs.Level.{primed, from_primed, carried_back}
-use Rattle.solve.specs.Sizes.{CarriedFrom, PrimedAt}
+use Rattle.solve.specs.Sizes.{Carries, PrimedWithin}
 use Rattle.solve.specs.declared.level.Level.{Level}
 use Rattle.solve.proofs.Sizes.{from_primed_within}
 use Rattle.solve.proofs.level.Level.carried_back.Goals as goal
 
 back : {h : Conic} {v : Level} {m : Triple} {p r : Point} →
-    CarriedFrom h v m → p ≡ from_primed h (primed v m) → r ≡ normal_within p → r ≡ carried_back h v m
+    InLimit h → Carries v m → p ≡ from_primed h (primed v m) → r ≡ normal_within p → r ≡ carried_back h v m
 unfolding carried_back
-back {h} {v} {m} i e f = f ∙ ap normal_within e ∙ normal_within_is_normal (within_wider (lit≤ tt) (from_primed_within h (primed v m) i.conic i.carries.primed_within))
+back {h} {v} {m} small c e f =
+    f ∙ ap normal_within e
+    ∙ normal_within_is_normal (within_wider (lit≤ tt) (from_primed_within h (primed v m) small c.primed_within))
 
 pub from_primed-p-requires : goal.from_primed-p-requires
-from_primed-p-requires c =
-    let i = c.requires in
-    subst (PrimedAt c.args.h) (sym c.primed.ensures) (record { conic = i.conic; primed_within = i.carries.primed_within })
+from_primed-p-requires c = subst PrimedWithin (sym c.primed.ensures) c.requires.primed_within
 
 pub returns : goal.returns
 returns c =
-    back c.requires
-    (c.from_primed-p.ensures ∙ ap (from_primed c.args.h) c.primed.ensures)
+    back c.args.curve.in_limit c.requires
+    (c.from_primed-p.ensures ∙ ap (from_primed c.args.curve.h) c.primed.ensures)
     (normal_passed c.from_primed-p.result (search sfits_of) (search sfits_of) (search sfits_of) c.normal.ensures)
