@@ -12,6 +12,7 @@ use point::{Direction, Point};
 mod place;
 
 // 1: the point; 2, none by sign: nothing; 3, none by a prime: the prime. The cost is solve's and at most three stores.
+// Not by map_or_else: tried, and the proof did not close.
 #[unsafe(no_mangle)]
 pub extern "C" fn conic_solve(
     a: i64,

@@ -9,6 +9,7 @@ mod steps;
 use std::fmt::Display;
 use std::io;
 
+// A title and its rows. No bound `Shown<T>: Display`: tried, and it overflows at the impl for a Result.
 fn rows<T: Display>(rt: &impl Print, title: &str, rows: &[T]) -> io::Result<()> {
     println!(rt; "{title}")?;
     for row in rows {

@@ -22,7 +22,8 @@ struct Base {
     ghost within: { ConicAt h p },
 }
 
-// Four products and two differences.
+// Four products and two differences. Points within the limit by clauses, here and in direction_to: of the target
+// nothing more is asked, so a type for it would be made only to be taken apart.
 fn chord(p: Point, q: Point) -> Direction
     requires { PointWithin point_limit p × PointWithin point_limit q }
     ensures { result ≡ chord p q }
