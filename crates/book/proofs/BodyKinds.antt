@@ -11,7 +11,9 @@ use Rattle.std.specs.Result.{result_ok}
 use Rattle.point.specs.declared.paper.Refusal.{Refusal}
 use Rattle.book.specs.Kinds.{kind_number, Decodes}
 use Rattle.book.specs.Layout.{body_length, kind_of, kind_at}
-use Rattle.book.specs.Reader.{ReaderAnswer, with_point, with_none_by_sign, with_none_by_prime, degenerate, no_entry, Stored, stored, is_none_by_sign, is_none_by_prime, is_right_point, bodies_end, is_right, body_holds, content_of}
+use Rattle.book.specs.Reader.{ReaderAnswer, with_point, with_none_by_sign, with_none_by_prime, degenerate, no_entry}
+use Rattle.book.specs.Reader.{Stored, stored, is_none_by_sign, is_none_by_prime, is_right_point, is_right}
+use Rattle.book.specs.Reader.{bodies_end, body_holds, content_of}
 use Rattle.conic.specs.Form.{Δ}
 use Rattle.conic.specs.Base.{in_range}
 use Rattle.conic.specs.declared.conic.Conic.{Conic}

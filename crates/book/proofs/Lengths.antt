@@ -54,7 +54,9 @@ pub book_at_most : (hs : List Conic) → length (book_of hs) ≤ 2 + 21 * length
 book_at_most hs = omega (arith, length_book hs, bodies_at_most hs)
 
 -- the bodies of the conics that are left, where a conic is the first of them
-pub length_left : {hs rest : List Conic} {h : Conic} → hs ≡ h ∷ rest → length (bodies hs) ≡ body_length (kind_of (solve_of h)) + length (bodies rest)
+pub length_left :
+    {hs rest : List Conic} {h : Conic} → hs ≡ h ∷ rest →
+    length (bodies hs) ≡ body_length (kind_of (solve_of h)) + length (bodies rest)
 length_left {rest = rest} {h} first = ap (λ (gs : List Conic). length (bodies gs)) first ∙ length_bodies h rest
 
 pub length_none : (hs : List Conic) {i : ℕ} → length hs ≤ i → length (bodies (drop i hs)) ≡ 0

@@ -11,7 +11,8 @@ use Rattle.legendre.specs.declared.outcome.Reason.TheVariants as Reason
 use Rattle.book.specs.Kinds.{kind_number, Decodes}
 use Rattle.book.specs.declared.kind.Kind.{Kind}
 use Rattle.book.proofs.BodyKinds.{kind_within}
-use Rattle.book.specs.Reader.{ReaderAnswer, with_point, with_none_by_sign, with_none_by_prime, degenerate, no_entry, Entry, entry, ReaderPromise}
+use Rattle.book.specs.Reader.{ReaderAnswer, with_point, with_none_by_sign, with_none_by_prime, degenerate, no_entry}
+use Rattle.book.specs.Reader.{Entry, entry, ReaderPromise}
 use Rattle.book.specs.Writer.{WriterAnswer, book_length, no_book, written, WriterPromise}
 
 -- ---- the kind of a byte
@@ -46,7 +47,8 @@ written_back (Ok n) = refl
 written_back (Err s) = ap Err (numbered_number s)
 
 pub write_determined :
-    {list before after after' : List ℕ} {r r' : Result ℕ Refusal} → WriterPromise list before r after → WriterPromise list before r' after' →
+    {list before after after' : List ℕ} {r r' : Result ℕ Refusal} →
+    WriterPromise list before r after → WriterPromise list before r' after' →
     (r ≡ r') × (after ≡ after')
 write_determined {r = r} {r' = r'} a b =
     (told_apart written to_written written_back r r' (a.answer ∙ sym b.answer), a.buffer ∙ sym b.buffer)

@@ -11,7 +11,8 @@ use Rattle.std.specs.Prelude.{Result, Ok}
 use Rattle.point.specs.declared.paper.Refusal.{Refusal}
 use Rattle.book.specs.Layout.{count_limit}
 use Rattle.book.specs.Steps.{BookPut, RightList}
-use Rattle.book.specs.Writer.{book_of, conics_of, all_in_range, wrong_list, WriterAnswer, no_book, book_length, written, writer_answer, left, WriterPromise}
+use Rattle.book.specs.Writer.{book_of, conics_of, all_in_range, wrong_list}
+use Rattle.book.specs.Writer.{WriterAnswer, no_book, book_length, written, writer_answer, left, WriterPromise}
 
 module _ (list : List ℕ) where
   pub not_sixes : (length list % 6 ≡ 0 → ⊥) → wrong_list list ≡ true
@@ -48,7 +49,9 @@ module _ (list before : List ℕ) where
       is_length fits = rw (right_list list right, range, fits)
 
   -- a refusal, and a book
-  pub refused : {r : Result ℕ Refusal} {n : ℕ} → written r ≡ no_book n → writer_answer list before ≡ no_book n → WriterPromise list before r before
+  pub refused :
+      {r : Result ℕ Refusal} {n : ℕ} → written r ≡ no_book n → writer_answer list before ≡ no_book n →
+      WriterPromise list before r before
   unfolding left
   refused own e = record { answer = own ∙ sym e; buffer = sym (ap (λ (w : WriterAnswer). left w (book_of (conics_of list)) before) e) }
 

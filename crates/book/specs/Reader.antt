@@ -1,6 +1,7 @@
 -- The reader's entry: it judges the whole book first, 12 for a broken layout, then 13 for a body that isn't right, then 16 for a
 -- number that the book does not have. Assumes nothing.
-use Rattle.std.specs.Prelude.{Bool, true, false, ◌&&◌, not, cond, List, [], ◌∷◌, ◌≡◌, ℕ, zero, suc, ◌+◌, ◌*◌, eqb, leb, ltb, length, get_or, Option, Some, None, Result, Ok, Err}
+use Rattle.std.specs.Prelude.{Bool, true, false, ◌&&◌, not, cond, List, [], ◌∷◌, ◌≡◌, ℕ, zero, suc, ◌+◌, ◌*◌, eqb, leb, ltb, length, get_or}
+use Rattle.std.specs.Prelude.{Option, Some, None, Result, Ok, Err}
 use Rattle.point.specs.Legal.{is_base}
 use Rattle.point.specs.Paper.{Verdict, point, none_by_sign, none_by_prime, refusal, number, is_zero}
 use Rattle.point.specs.declared.Point.{Point}

@@ -1,5 +1,6 @@
 -- The book of a list of conics, and the writer's entry: refusals 15, 1, 14, each leaving every byte. Assumes nothing.
-use Rattle.std.specs.Prelude.{Bool, true, ◌&&◌, ◌||◌, not, cond, List, [], ◌∷◌, ◌++◌, ◌≡◌, ℕ, zero, suc, ◌+◌, ◌*◌, ◌/◌, ◌%◌, eqb, ltb, length, drop, Result, Ok, Err}
+use Rattle.std.specs.Prelude.{Bool, true, ◌&&◌, ◌||◌, not, cond, List, [], ◌∷◌, ◌++◌, ◌≡◌, ℕ, zero, suc, ◌+◌, ◌*◌, ◌/◌, ◌%◌, eqb, ltb, length, drop}
+use Rattle.std.specs.Prelude.{Result, Ok, Err}
 use Rattle.point.specs.Paper.{number}
 use Rattle.point.specs.declared.paper.Refusal.{Refusal}
 use Rattle.conic.specs.Base.{in_range}

@@ -5,7 +5,6 @@ ghost use Rattle.std.specs.Prelude.{◌≡◌, false, ◌&&◌, ◌+◌, ◌*◌
 ghost use Rattle.point.specs.Paper.{is_zero};
 ghost use Rattle.conic.specs.Form.{Δ};
 ghost use Rattle.conic.specs.Base.{in_range};
-ghost use Rattle.solve.specs.Solve.{solve_of};
 ghost use Rattle.book.specs.Kinds.{kind_number};
 ghost use Rattle.book.specs.Layout.{body_length, count_of};
 ghost use Rattle.book.specs.Reader.{bodies_end, every_below, layout_holds, is_right_point, is_right, body_holds};

@@ -1,7 +1,7 @@
 // The writer of a book: the list is judged first, and no byte is written before the book is known to fit.
 #![tactic(auto)]
 
-ghost use Rattle.std.specs.Prelude.{◌∷◌, ◌++◌, ◌≡◌, ◌+◌, ◌*◌, ◌≤◌, true, ltb, length, IfOk, IfErr};
+ghost use Rattle.std.specs.Prelude.{◌∷◌, ◌++◌, ◌≡◌, ◌+◌, ◌≤◌, true, ltb, length, IfOk, IfErr};
 ghost use Rattle.std.proofs.lemmas.List.Edits.{sets};
 ghost use Rattle.point.specs.Paper.{point, point_limit};
 ghost use Rattle.point.specs.Sizes.{PointWithin};

@@ -1,4 +1,3 @@
-pub mod Handing
 pub mod Lengths
 pub mod Promise
 pub mod Refusals

@@ -58,7 +58,9 @@ pub outcome_sign : {p g q : ℤ} → OneSign p g q → outcome_of p g q ≡ Err 
 unfolding outcome_of
 outcome_sign {p} {g} {q} signs = rw ((one_sign_iff p g q).1 signs)
 
-outcome_least : {p g q : ℤ} → ¬ OneSign p g q → least_failing p g q < prime_limit p g q → outcome_of p g q ≡ Err (Prime (least_failing p g q))
+outcome_least :
+    {p g q : ℤ} → ¬ OneSign p g q → least_failing p g q < prime_limit p g q →
+    outcome_of p g q ≡ Err (Prime (least_failing p g q))
 unfolding outcome_of
 outcome_least {p} {g} {q} mixed found = rw (false_of_not_true (λ e. mixed ((one_sign_iff p g q).0 e)), lt-ltb (least_failing p g q) (prime_limit p g q) found)
 

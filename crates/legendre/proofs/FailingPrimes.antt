@@ -68,7 +68,9 @@ module _ {size : ℕ} {number : ℤ} {rest divisor : ℕ} (t : Trial size number
   rest_at_most = le_of_dvd size_positive t.part
 
   -- a prime of what is left, below its other primes, that fails
-  first_failing : (l : ℕ) → Prime l → l ∣ rest → ((k : ℕ) → Prime k → k ∣ rest → l ≤ k) → is_square_modulo l number ≡ false → Some l ≡ least_below (fails size number) (suc size)
+  first_failing :
+      (l : ℕ) → Prime l → l ∣ rest → ((k : ℕ) → Prime k → k ∣ rest → l ≤ k) → is_square_modulo l number ≡ false →
+      Some l ≡ least_below (fails size number) (suc size)
   first_failing l prime h first no_square =
       finds_equals (Some l) (fails_bounded size number size_positive)
       ((fails_iff size number l).1 (record { divisor = dvd_trans l h t.part; no_square = no_square; prime = prime }), λ i below. false_of_not_true (λ e. none i below ((fails_iff size number i).0 e)))
@@ -176,6 +178,8 @@ module _ {size : ℕ} {number : ℤ} {rest divisor : ℕ} (t : Trial size number
     rest_holds : is_square_modulo rest number ≡ true → None ≡ least_below (fails size number) (suc size)
     rest_holds holds = none_failing (λ l p h. ⊎_elim (λ one. absurd (prime_not_one p one)) (λ e. rw e holds) (rest_prime.only_divisors l h))
 
-    pub rest_decides : (square : Bool) → is_square_modulo rest number ≡ square → then_some (not square) rest ≡ least_below (fails size number) (suc size)
+    pub rest_decides :
+        (square : Bool) → is_square_modulo rest number ≡ square →
+        then_some (not square) rest ≡ least_below (fails size number) (suc size)
     rest_decides true e = rest_holds e
     rest_decides false e = rest_fails e

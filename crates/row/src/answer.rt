@@ -1,10 +1,10 @@
 // The answer to a text row, and its row text: what is written costs one step for each byte.
-ghost use Rattle.std.specs.Prelude.{[], ◌∷◌, ◌++◌, ◌≡◌, ◌+◌, ◌≤◌, length};
+ghost use Rattle.std.specs.Prelude.{[], ◌∷◌, ◌++◌, ◌≡◌, ◌≤◌, length};
 ghost use Rattle.point.specs.Paper.{point};
 ghost use Rattle.solve.specs.Answer.{solved};
-ghost use Rattle.row_reader.specs.Reading.{space, read_row};
+ghost use Rattle.row_reader.specs.Reading.{read_row};
 ghost use Rattle.row.specs.Row.{verdict_on, buffer_limit};
-ghost use Rattle.row.specs.Writing.{line_feed, decimal, signed_decimal, row_text};
+ghost use Rattle.row.specs.Writing.{line_feed, decimal, row_text};
 
 use crate::text::RowText;
 use point::Point;

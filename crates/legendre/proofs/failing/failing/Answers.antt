@@ -11,7 +11,8 @@ use mir.Val.{SFits, to_z, of_z}
 use mir.Facts.{to_z-of_z}
 use Rattle.std.specs.Bool.{then_some}
 use Rattle.legendre.specs.Search.{least_below, fails}
-use Rattle.legendre.proofs.FailingPrimes.{trial_taken, trial_next, divisor_small, divisor_prime, divisor_fails, none_left, rest_at_most, rest_prime, rest_decides}
+use Rattle.legendre.proofs.FailingPrimes.{trial_taken, trial_next, divisor_small, divisor_prime, divisor_fails}
+use Rattle.legendre.proofs.FailingPrimes.{none_left, rest_at_most, rest_prime, rest_decides}
 use Rattle.legendre.proofs.failing.failing.Goals as goal
 
 -- the loop reads the number from its bits
@@ -62,4 +63,5 @@ no_root-requires-2 c =
 pub returns : goal.returns
 returns c =
     c.then_some.ensures ∙ ap (λ (b : Bool). then_some b c.loop-divisor.rest) c.no_root-2.ensures
-    ∙ rest_decides c.loop-divisor.invariant c.requires.positive (omega arith) c.if-rest-eq1.false _ refl ∙ at_number c.args.size c.ranges.number
+    ∙ rest_decides c.loop-divisor.invariant c.requires.positive (omega arith) c.if-rest-eq1.false _ refl
+    ∙ at_number c.args.size c.ranges.number
