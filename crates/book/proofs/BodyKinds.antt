@@ -5,6 +5,7 @@ use mathlib.Core.List.{List}
 use mathlib.Core.Path.{◌≡◌, ap, ap₂, ◌∙◌}
 use Prim.Native.Nat.{ℕ, zero, suc, ◌≤◌}
 use lib.Dec.{lit≤}
+use native.Mathlib.Omega.{arith}
 use Rattle.point.specs.Paper.{is_zero, Verdict, point, none_by_sign, none_by_prime, refusal}
 use Rattle.std.specs.Prelude.{Some, Result, Ok, Err}
 use Rattle.std.specs.Result.{result_ok}
@@ -28,6 +29,15 @@ length_at_most (suc (suc zero)) = lit≤ tt
 length_at_most (suc (suc (suc zero))) = lit≤ tt
 length_at_most (suc (suc (suc (suc zero)))) = lit≤ tt
 length_at_most (suc (suc (suc (suc (suc n))))) = lit≤ tt
+
+-- every body has the six coefficients
+pub length_at_least : (kind : ℕ) → 1 ≤ kind → kind ≤ 4 → 6 ≤ body_length kind
+length_at_least zero h k = absurd (omega arith)
+length_at_least (suc zero) h k = lit≤ tt
+length_at_least (suc (suc zero)) h k = lit≤ tt
+length_at_least (suc (suc (suc zero))) h k = lit≤ tt
+length_at_least (suc (suc (suc (suc zero)))) h k = lit≤ tt
+length_at_least (suc (suc (suc (suc (suc n))))) h k = absurd (omega arith)
 
 pub kind_at_most : (v : Verdict) → kind_of v ≤ 4
 kind_at_most (point p) = lit≤ tt

@@ -45,6 +45,15 @@ pub listed : (list : List ℕ) → conics_in (first_chunks 6 (length list / 6) l
 unfolding conics_of
 listed list = listed_from (length list / 6) list 0
 
+length_from : (n : ℕ) (list : List ℕ) (at : ℕ) → length (conics_from n list at) ≡ n
+unfolding conics_from
+length_from zero list at = refl
+length_from (suc n) list at = ap suc (length_from n list (at + 6))
+
+pub length_conics : (list : List ℕ) → length (conics_of list) ≡ length list / 6
+unfolding conics_of
+length_conics list = length_from (length list / 6) list 0
+
 pub length_listed : (runs : List (List ℕ)) → length (conics_in runs) ≡ length runs
 length_listed runs = length-map runs (λ (six : List ℕ). conic_at six 0)
 

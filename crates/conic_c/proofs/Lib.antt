@@ -1,3 +1,4 @@
+pub mod Handing
 pub mod Lengths
 pub mod Promise
 pub mod Refusals

@@ -63,6 +63,16 @@ pub record Trial (size : ℕ) (number : ℤ) (rest divisor : ℕ) : Type 0 where
   pub tried : NoDivisorBelow divisor rest
   pub passed : (l : ℕ) → Prime l → l ∣ size → (l ∣ rest) ⊎ (is_square_modulo l number ≡ true)
 
+pub trial_start : (size : ℕ) (number : ℤ) → 0 < size → Trial size number size 2
+trial_start size number positive = record {
+  positive = positive;
+  part = dvd_refl size;
+  from_two = le_refl 2;
+  divisor_bound = omega arith;
+  tried = record { none = λ k two below h. omega arith };
+  passed = λ l p h. inl h;
+}
+
 module _ {size : ℕ} {number : ℤ} {rest divisor : ℕ} (t : Trial size number rest divisor) (size_positive : 0 < size) where
   pub rest_at_most : rest ≤ size
   rest_at_most = le_of_dvd size_positive t.part

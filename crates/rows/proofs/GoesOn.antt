@@ -1,16 +1,18 @@
 -- What a caller of `feed` goes by: with room for a row something is taken, never more than the piece has, and what was
--- written lies within the buffer. Assumes nothing.
+-- written, by `finish` too, lies within the buffer. Assumes nothing.
 use mathlib.Core.Bool.{Bool, true, false, cond}
-use mathlib.Core.List.{List, [], ◌∷◌}
-use mathlib.Core.Path.{ap, ◌∙◌}
+use mathlib.Core.List.{List, [], ◌∷◌, ◌++◌}
+use mathlib.Core.Path.{◌≡◌, ap, sym, ◌∙◌}
 use Prim.Native.Nat.{ℕ, suc, ◌-◌, ◌≤◌, ◌<◌}
 use native.Mathlib.Omega.{arith}
 use borrow.Author.Tests.{le-ltb}
 use lib.Dec.{eqb, ltb}
 use lib.ListN.{length, drop, length-append}
-use Rattle.row.specs.Row.{row_of, buffer_limit}
+use Rattle.std.specs.Prelude.{Ok}
+use Rattle.row.specs.Row.{row_of, buffer_limit, too_short, row_length, no_row, written, Written}
 use Rattle.row.specs.Writing.{line_feed}
-use Rattle.rows.specs.Cutter.{keep, emptied, held_text, Feeding, stopped, after, feed_of, FeedPromise}
+use Rattle.rows.specs.Cutter.{keep, emptied, held_text, Feeding, stopped, after, feed_of, finish_of}
+use Rattle.rows.specs.Cutter.{FeedPromise, FinishPromise}
 use Rattle.rows.specs.Whole.{FeedingGoesOn}
 use Rattle.rows.specs.declared.Cutter.{Cutter}
 use Rattle.rows.specs.declared.Fed.{Fed}
@@ -75,3 +77,19 @@ pub fed_something :
     buffer_limit ≤ length before → 0 < r.taken
 unfolding FeedingGoesOn
 fed_something c piece before r left p h room = omega (arith, p.taken, feeding_goes_on c piece (length before) h room)
+
+pub finished_within :
+    (c : Cutter) (before : List ℕ) (r : Written) (left : List ℕ) (n : ℕ) → FinishPromise c before r left → r ≡ Ok n →
+    n ≤ length left
+finished_within c before r left n p e = go (too_short before) (sym (ap written e) ∙ p.answer) p.buffer
+  where
+    output : List ℕ
+    output = finish_of c
+
+    go :
+        (short : Bool) → row_length n ≡ cond short (no_row 11) (row_length (length output)) →
+        left ≡ cond short before (output ++ drop (length output) before) → n ≤ length left
+    go true a b = let z : ◌≡◌ {A = ℕ} 0 1 = cc in absurd (omega arith)
+    go false a b =
+        let size : n ≡ length output = cc in
+        omega (arith, size, ap length b ∙ length-append output (drop (length output) before))
