@@ -1,4 +1,5 @@
 pub mod Writing
+pub mod Buffer
 pub mod Row
 pub mod Theorems
 pub mod Refusals

@@ -1,10 +1,11 @@
 // The answer to a text row, and its row text: what is written costs one step for each byte.
-ghost use Rattle.std.specs.Prelude.{[], ◌∷◌, ◌++◌, ◌≡◌, ◌≤◌, length};
+ghost use Rattle.std.specs.Prelude.{◌≡◌};
 ghost use Rattle.point.specs.Paper.{point};
 ghost use Rattle.solve.specs.Answer.{solved};
 ghost use Rattle.row_reader.specs.Reading.{read_row};
-ghost use Rattle.row.specs.Row.{verdict_on, buffer_limit};
-ghost use Rattle.row.specs.Writing.{line_feed, decimal, row_text};
+ghost use Rattle.row.specs.Row.{verdict_on};
+ghost use Rattle.row.specs.Writing.{row_text};
+ghost use Rattle.row.specs.Buffer.{HasRoom, Wrote};
 
 use crate::text::RowText;
 use point::Point;
@@ -19,45 +20,32 @@ pub fn verdict(text: &[u8]) -> Result<Answer, Refusal>
     solve::solve(row_reader::read(text).ok_or(Refusal::Row)?)
 }
 
-// Words, a number and a line feed. Room is asked for, as in RowText.
-fn numbered(words: &[u8], n: u64) -> RowText
-    requires { length (words.now ++ decimal n ++ line_feed ∷ []) ≤ buffer_limit }
-    ensures { result ≡ words.now ++ decimal n ++ line_feed ∷ [] }
+// "P x y z". Room is asked for, as in RowText.
+fn coordinates(row: &mut RowText, p: Point)
+    requires { HasRoom (row_text (point p)) row.old }
+    ensures { Wrote (row_text (point p)) row.old row.new }
 {
-    let mut text = RowText::of(words);
-    text.decimal(n);
-    text.byte(b'\n');
-    text
-}
-
-// "P x y z".
-#[tactic(auto, using(crate::proofs::Decimal::numbers), unfolding(crate::specs::Writing::row_text))]
-fn coordinates(p: Point) -> RowText
-    requires { length (row_text (point p)) ≤ buffer_limit }
-    ensures { result ≡ row_text (point p) }
-{
-    let mut text = RowText::of(b"P");
-    text.spaced(p.x);
-    text.spaced(p.y);
-    text.spaced(p.z);
-    text.byte(b'\n');
-    text
+    row.byte(b'P');
+    row.spaced(p.x);
+    row.spaced(p.y);
+    row.spaced(p.z);
+    row.byte(b'\n');
 }
 
 // The row of what solve gives. Taken apart by if-let and let-else: docs/RULES.md, "Forms in the code".
 #[tactic(auto, using(crate::proofs::Decimal::numbers), unfolding(crate::specs::Writing::row_text))]
-pub fn written(given: Result<Answer, Refusal>) -> RowText
-    requires { length (row_text (solved given)) ≤ buffer_limit }
-    ensures { result ≡ row_text (solved given) }
+pub fn written(given: Result<Answer, Refusal>, row: &mut RowText)
+    requires { HasRoom (row_text (solved given)) row.old }
+    ensures { Wrote (row_text (solved given)) row.old row.new }
 {
     if let Err(refusal) = given {
-        return numbered(b"R ", refusal.number());
+        return row.numbered(b"R ", refusal.number());
     }
     if let Ok(Err(Reason::Prime(l))) = given {
-        return numbered(b"N prime ", l);
+        return row.numbered(b"N prime ", l);
     }
     let Ok(Ok(p)) = given else {
-        return RowText::of(b"N sign\n");
+        return row.words(b"N sign\n");
     };
-    coordinates(p)
+    coordinates(row, p)
 }

@@ -1,65 +1,56 @@
-// The text of a row in the making: one step for each byte.
-ghost use Rattle.std.specs.Prelude.{◌≡◌, [], ◌∷◌, ◌++◌, ◌+◌, ◌≤◌, ◌<◌, length};
+// The text of a row in the making, written straight into the lent buffer: one step for each byte.
+ghost use Rattle.std.specs.Prelude.{◌≡◌, [], ◌∷◌, ◌++◌};
 ghost use Rattle.row_reader.specs.Reading.{space};
-ghost use Rattle.row.specs.Row.{buffer_limit};
-ghost use Rattle.row.specs.Writing.{decimal, signed_decimal};
+ghost use Rattle.row.specs.Writing.{line_feed, decimal, signed_decimal};
+ghost use Rattle.row.specs.Buffer.{HasRoom, Wrote};
 
-use crate::BUFFER_LIMIT;
-use std::marker::Model;
-
-// Its bytes so far, and how many of them there are: an array, since nothing here is on the heap.
+// The buffer, and how many of its bytes are the row's so far.
 #[derive(Drop)]
-pub struct RowText {
-    bytes: [u8; BUFFER_LIMIT],
+pub struct RowText<'a> {
+    out: &'a mut [u8],
     length: usize,
 }
 
-// Clauses see the bytes so far.
-impl Model for RowText {
-    ghost use Rattle.std.specs.Prelude.{List, ℕ, ◌≤◌, take};
-    ghost use Rattle.row.specs.Row.{buffer_limit};
-
-    ghost Value = { List ℕ };
-
-    ghost view = { λ t. take t.length t.bytes };
-
-    ghost invariant = { λ t. t.length ≤ buffer_limit };
-}
-
 // Room is asked for, not tested: every row fits (RowsFit), and a test would bring a refusal that no row has.
-impl RowText {
-    pub fn of(words: &[u8]) -> RowText
-        requires { length words.now ≤ buffer_limit }
-        ensures { result ≡ words.now }
+impl<'a> RowText<'a> {
+    pub fn new(out: &'a mut [u8]) -> RowText<'a>
+        ensures same { result.out.ghost_name ≡ out.entry.ghost_name }
+        ensures buffer { result.out.now ≡ out.old }
+        ensures empty { result.length ≡ 0 }
     {
-        let mut bytes = [0; BUFFER_LIMIT];
-        bytes[..words.len()].copy_from_slice(words);
-        RowText {
-            bytes,
-            length: words.len(),
-        }
+        RowText { out, length: 0 }
     }
 
-    pub fn as_slice(&self) -> &[u8]
-        ensures { result.now ≡ self.now }
+    pub fn length(&self) -> usize
+        ensures { result ≡ self.now.length }
     {
-        &self.bytes[..self.length]
+        self.length
     }
 
     pub fn byte(&mut self, b: u8)
-        requires { length self.old < buffer_limit }
-        ensures { self.new ≡ self.old ++ b ∷ [] }
+        requires { HasRoom (b ∷ []) self.old }
+        ensures { Wrote (b ∷ []) self.old self.new }
     {
-        self.bytes[self.length] = b;
+        self.out[self.length] = b;
         self.length += 1;
     }
 
+    #[tactic(auto, using(crate::proofs::Buffer::room_for_more))]
+    pub fn words(&mut self, words: &[u8])
+        requires { HasRoom words.now self.old }
+        ensures { Wrote words.now self.old self.new }
+    {
+        for b in words {
+            self.byte(*b);
+        }
+    }
+
     // One call for each digit, the last one written last. By hand: `write!` may fail by its contract, and the crate
-    // `itoa` takes a third longer for a row (41 for 30 ns at "R 10").
+    // `itoa` writes into a buffer of its own first.
     #[tactic(auto, using(crate::proofs::Decimal::numbers))]
     pub fn decimal(&mut self, n: u64)
-        requires { length self.old + length (decimal n) ≤ buffer_limit }
-        ensures { self.new ≡ self.old ++ decimal n }
+        requires { HasRoom (decimal n) self.old }
+        ensures { Wrote (decimal n) self.old self.new }
     {
         if n < 10 {
             return self.byte(b'0' + n as u8);
@@ -71,8 +62,8 @@ impl RowText {
     // A space, and any number, the least one too.
     #[tactic(auto, using(crate::proofs::Decimal::numbers))]
     pub fn spaced(&mut self, n: i64)
-        requires { length self.old + length (space ∷ signed_decimal n) ≤ buffer_limit }
-        ensures { self.new ≡ self.old ++ space ∷ signed_decimal n }
+        requires { HasRoom (space ∷ signed_decimal n) self.old }
+        ensures { Wrote (space ∷ signed_decimal n) self.old self.new }
     {
         let size = n.unsigned_abs();
         self.byte(b' ');
@@ -81,5 +72,15 @@ impl RowText {
         }
         self.byte(b'-');
         self.decimal(size);
+    }
+
+    // Words, a number and a line feed.
+    pub fn numbered(&mut self, words: &[u8], n: u64)
+        requires { HasRoom (words.now ++ decimal n ++ line_feed ∷ []) self.old }
+        ensures { Wrote (words.now ++ decimal n ++ line_feed ∷ []) self.old self.new }
+    {
+        self.words(words);
+        self.decimal(n);
+        self.byte(b'\n');
     }
 }
