@@ -1,5 +1,5 @@
--- From the library's refusals to the exported functions' codes: the paper's number of a refusal is at most 16. By cases on the refusals.
--- Assumes nothing.
+-- From the library's refusals to the exported functions' codes: the paper's number of a refusal is at most 16. By cases
+-- on the refusals. Assumes nothing.
 use Prim.Native.Nat.{◌≤◌}
 use lib.Dec.{lit≤}
 use Rattle.point.specs.Paper.{number}

@@ -1,6 +1,7 @@
 -- A length that the row writer or the book writer returns is at most that of the buffer it was lent: what was written
 -- stands in it. Assumes nothing.
-use Rattle.std.proofs.Common.{List, length, length-append, drop, ◌++◌, ◌≡◌, sym, ap, ◌∙◌, ℕ, ◌≤◌, Bool, true, false, cond, arith}
+use Rattle.std.proofs.Common.{List, length, length-append, drop, ◌++◌, ◌≡◌, sym, ap, ◌∙◌, ℕ, ◌≤◌}
+use Rattle.std.proofs.Common.{Bool, true, false, cond, arith}
 use Rattle.std.specs.Prelude.{Ok}
 use Rattle.row.specs.Row.{RowPromise, row_length, no_row, row_of, too_short}
 use Rattle.book.specs.Writer.{book_length, writer_answer}

@@ -1,5 +1,5 @@
--- Products and sums of machine numbers that have no bound of their own: where the result is at most 2⁶² in size it fits, and so does the
--- negation of a product, and the machine's results are the numbers themselves. Assumes nothing.
+-- Products and sums of machine numbers that have no bound of their own: where the result is at most 2⁶² in size it
+-- fits, and so does the negation of a product, and the machine's results are the numbers themselves. Assumes nothing.
 use mathlib.Core.Path.{◌≡◌, ap, ap₂, ◌∙◌}
 use Prim.Native.Nat.{◌^◌, ◌≤◌}
 use lib.IntN.{ℤ, pos, neg_ℤ, nat_abs, ◌+ℤ◌, ◌*ℤ◌, ◌-ℤ◌, +ℤ_idl}

@@ -1,5 +1,5 @@
--- The walk of the box: what a row has passed, and what the rows have. Each step adds one place, or one row, to those that were passed,
--- and a row ends at the side of the box. Assumes nothing.
+-- The walk of the box: what a row has passed, and what the rows have. Each step adds one place, or one row, to those
+-- that were passed, and a row ends at the side of the box. Assumes nothing.
 use mathlib.Core.Path.{◌≡◌, subst}
 use mathlib.Core.Logic.{⊎_elim}
 use Prim.Native.Nat.{ℕ, ◌+◌, ◌≤◌, ◌<◌}

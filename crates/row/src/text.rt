@@ -35,6 +35,7 @@ impl<'a> RowText<'a> {
         self.length += 1;
     }
 
+    // By hand: the library's copy_from_slice would have the library for C need a name from outside.
     #[tactic(auto, using(crate::proofs::Buffer::room_for_more))]
     pub fn words(&mut self, words: &[u8])
         requires { HasRoom words.now self.old }

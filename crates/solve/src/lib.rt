@@ -52,6 +52,7 @@ impl Curve {
     }
 
     // One square test, and one of the two ways.
+    #[tactic(auto, using(crate::proofs::Entries::solve_by_level, crate::proofs::Entries::solve_square))]
     fn answer(self) -> Answer
         ensures { answered result ≡ solve_non_degenerate self.h }
     {
