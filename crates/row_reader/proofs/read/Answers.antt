@@ -1,12 +1,23 @@
--- `row_reader::read` meets its contract: a part more is a number more, and where there is none, or the row has too few
--- parts or too many, the whole row is none. Assumes nothing.
-use Rattle.std.proofs.Common.{◌≡◌, ◌∙◌, ap, sym, [], ℕ, rules, tests, arith, take, get_or, w64, to_z-of_z}
-use Rattle.std.specs.Prelude.{pos}
+-- `row_reader::read` meets its contract: an empty text is none, a part more is a number more, and where there is none, or
+-- the row has too few parts or too many, the whole row is none. Assumes nothing.
+use Rattle.std.proofs.Common.{◌≡◌, refl, ◌∙◌, ap, sym, List, [], ◌∷◌, length, ℕ, take, get_or, w64, to_z-of_z}
+use Rattle.std.proofs.Common.{rules, tests, arith}
+use Rattle.std.specs.Prelude.{pos, None}
+use Rattle.row_reader.specs.Reading.{parts_at, read_number, read_numbers, and_then, six, read_row}
 use mir.Val.{SFits}
 use Rattle.std.proofs.lemmas.Grind.{common_steps}
 use Rattle.row_reader.proofs.Cutting.{split_gives}
 use Rattle.row_reader.proofs.Numbers.{with_parts, before_all, row_is, one_more, too_few, too_many, broken, all_six}
 use Rattle.row_reader.proofs.read.Goals as goal
+
+-- an empty text is one part, which is no number
+empty_is_none : (text : List ℕ) → length text ≡ 0 → None ≡ read_row text
+unfolding read_row parts_at read_numbers read_number and_then six
+empty_is_none [] e = refl
+empty_is_none (b ∷ text) e = cc
+
+pub returns-then-is_empty : goal.returns-then-is_empty
+returns-then-is_empty c = empty_is_none c.args.text.now (grind arith)
 
 pub loop-n-init : goal.loop-n-init
 loop-n-init c = record {
